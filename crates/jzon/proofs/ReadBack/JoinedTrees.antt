@@ -22,20 +22,6 @@ pub node_raised : (r : Reading) (h g : ℕ) (b : List ℕ) (n : Node) → h ≤ 
 node_raised r h g b n le e =
     record { utf8 = e.utf8; in_grammar = e.in_grammar; unbroken = λ depth k few. e.unbroken depth k (omega arith) }
 
-elements_raised : (r : Reading) (h g : ℕ) (b : List ℕ) (es : Elements) → h ≤ g → ElementsSpell r h b es
-    → ElementsSpell r g b es
-elements_raised r h g b es le e =
-    record { utf8 = e.utf8; in_grammar = e.in_grammar; unbroken = λ depth k few. e.unbroken depth k (omega arith) }
-
-members_raised : (r : Reading) (h g : ℕ) (keys : List (List ℕ)) (b : List ℕ) (ms : Members) → h ≤ g
-    → MembersSpell r h keys b ms → MembersSpell r g keys b ms
-members_raised r h g keys b ms le e =
-    record {
-      utf8 = e.utf8;
-      in_grammar = e.in_grammar;
-      unbroken = λ seen depth k new few. e.unbroken seen depth k new (omega arith);
-    }
-
 -- ---- values
 
 -- each node spells its text
@@ -61,9 +47,6 @@ pub record JoinedElements (r : Reading) (high : ℕ) (t : List ℕ) (ns : List N
 after_value : (w t x y : List ℕ) → (w ++ (t ++ x)) ++ y ≡ w ++ (t ++ (x ++ y))
 after_value w t x y = append_assoc w (t ++ x) y ∙ ap (λ z. w ++ z) (append_assoc t x y)
 
-no_higher : (n : ℕ) → max n n ≤ n
-no_higher n = omega arith
-
 pub joined_elements : (r : Reading) (s : Style) (dent high : ℕ) (t : List ℕ) (ts : List (List ℕ)) (n : Node)
     (ns : List Node) (inside w : List ℕ)
     → AllowsWhitespaceOf r s → EachSpells r high (t ∷ ts) (n ∷ ns) → Joins s dent (t ∷ ts) inside → IsWhitespace r w
@@ -75,7 +58,7 @@ joined_elements r s dent high t [] n [] inside w fit each join space = record {
   elements = no_elements;
   whitespace = fit dent join.0 join.1;
   space = space;
-  spell = elements_raised r 0 high (93 ∷ []) no_elements (omega arith) (no_elements_spell r);
+  spell = no_elements_spell r high;
   text = ap (λ x. x ++ (w ++ 93 ∷ [])) join.2 ∙ append_assoc join.0 t (w ++ 93 ∷ []);
   means = refl;
 }
@@ -91,9 +74,8 @@ joined_elements r s dent high t (u ∷ ts) n (m ∷ ns) inside w fit each join s
       whitespace = fit dent join.0 join.2;
       space = tt;
       spell =
-          elements_raised r (max high high) high _ _ (no_higher high)
-          (element_spells r high more.before u more.after more.rest m more.whitespace more.space each.1.0 high
-          more.elements more.spell);
+          element_spells r high more.before u more.after more.rest m more.whitespace more.space each.1.0 high
+          more.elements more.spell high (omega arith) (omega arith);
       text =
           ap (λ x. x ++ (w ++ 93 ∷ [])) join.4 ∙ after_value join.0 t (44 ∷ join.1) (w ++ 93 ∷ [])
           ∙ ap (λ x. join.0 ++ (t ++ 44 ∷ x)) more.text;
@@ -151,7 +133,7 @@ joined_members r s dent high e [] inside w fit each join space = record {
   members = no_members;
   whitespace = fit dent join.0 join.1;
   space = space;
-  spell = members_raised r 0 high [] (125 ∷ []) no_members (omega arith) (no_members_spell r);
+  spell = no_members_spell r high;
   text = ap (λ x. x ++ (w ++ 125 ∷ [])) join.2 ∙ append_assoc join.0 (entry_text e) (w ++ 125 ∷ [])
       ∙ entry_after e join.0 (w ++ 125 ∷ []);
   means = refl;
@@ -167,9 +149,9 @@ joined_members r s dent high e (f ∷ es) inside w fit each join space =
       whitespace = fit dent join.0 join.2;
       space = tt;
       spell =
-          members_raised r (max high high) high _ _ _ (no_higher high)
-          (member_spells r high f.gap f.text more.after more.rest f.node each.1.0.whitespace more.space
-          each.1.0.spells high _ more.members more.spell more.before f.key more.whitespace each.1.0.utf8);
+          member_spells r high f.gap f.text more.after more.rest f.node each.1.0.whitespace more.space
+          each.1.0.spells high _ more.members more.spell more.before f.key more.whitespace each.1.0.utf8
+          high (omega arith) (omega arith);
       text =
           ap (λ x. x ++ (w ++ 125 ∷ [])) join.4 ∙ after_value join.0 (entry_text e) (44 ∷ join.1) (w ++ 125 ∷ [])
           ∙ entry_after e join.0 (44 ∷ (join.1 ++ (w ++ 125 ∷ [])))

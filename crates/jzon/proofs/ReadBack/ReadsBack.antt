@@ -50,9 +50,6 @@ record ReadEntries (r : Reading) (ps : ValuePairs) (ts : List (List ℕ)) : Type
   keys : entry_keys entries ≡ keys_of (list_of_pairs ps)
   alike : (q : List ℕ) → same_at (find q (map entry_meaning entries)) (find q (list_of_pairs ps)) ≡ true
 
-above_max : (n : ℕ) → suc (max n n) ≤ suc n
-above_max n = omega arith
-
 -- ---- arrays
 
 array_from : (r : Reading) (s : Style) (dent : ℕ) (v : Value) (vs : Values) (b : List ℕ) (ts : List (List ℕ))
@@ -69,8 +66,8 @@ array_from r s dent v vs b (t ∷ ts) (n ∷ ns) fit each alike w =
     record {
       node = node;
       spells =
-          rw (w.4, j.text) (node_raised r (suc (max high high)) (suc high) _ node (above_max high)
-          (array_spells r high j.before t j.after j.rest n j.whitespace j.space each.0 high j.elements j.spell));
+          rw (w.4, j.text) (array_spells r high j.before t j.after j.rest n j.whitespace j.space each.0 high j.elements
+          j.spell high (omega arith) (omega arith));
       alike = ap (λ ms. same_items (value (meaning n) ms) (value v vs)) j.means ∙ alike;
     }
 
@@ -96,9 +93,9 @@ object_from r s dent k v ps b (e ∷ es) fit each distinct alike w =
     record {
       node = node;
       spells =
-          rw (w.4, j.text) (node_raised r (suc (max high high)) (suc high) _ node (above_max high)
-          (object_spells r high e.gap e.text j.after j.rest e.node each.0.whitespace j.space each.0.spells high _
-          j.members j.spell j.before e.key j.whitespace each.0.utf8 (AreNew-IsDistinct (entry_keys (e ∷ es)) distinct)));
+          rw (w.4, j.text) (object_spells r high e.gap e.text j.after j.rest e.node each.0.whitespace j.space
+          each.0.spells high _ j.members j.spell j.before e.key j.whitespace each.0.utf8 high (omega arith) (omega arith)
+          (AreNew-IsDistinct (entry_keys (e ∷ es)) distinct));
       alike =
           rw means (object-intro (pairs_of (map entry_meaning (e ∷ es))) (pair k v ps)
           (λ q. ap (λ qs. same_at (find q qs) (find q (list_of_pairs (pair k v ps))))

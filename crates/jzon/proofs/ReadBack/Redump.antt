@@ -1,7 +1,7 @@
 -- The compact text of a value is read as a value with the same compact text.
 use Rattle.jzon_base.proofs.Common.{◌≡◌, ◌∙◌, ℕ, suc, List, [], ◌∷◌, ◌++◌, true, false, codes, refl, sym, ap, subst}
 use Rattle.jzon_base.proofs.Common.{append_assoc, IsUtf8, IsDistinct, bytes_eq, IsDistinct-from_AllPairs}
-use Rattle.jzon_base.proofs.Common.{bytes_eq-Decides}
+use Rattle.jzon_base.proofs.Common.{bytes_eq-Decides, arith}
 use Rattle.jzon_base.specs.Decimal.{nan, parts}
 use Rattle.jzon_base.specs.PairList.{keys_of, put_each}
 use Rattle.jzon_base.proofs.Entries.PutEach.{put_each-distinct}
@@ -67,7 +67,8 @@ mutual
       let more = dumped_values r d vs h.1 in
       record {
         node = Node.array [] one.node [] more.elements;
-        spells = array_spells r (nest v) [] _ [] _ one.node tt tt one.spells (most_nest vs) more.elements more.spell;
+        spells = array_spells r (nest v) [] _ [] _ one.node tt tt one.spells (most_nest vs) more.elements more.spell
+            _ (omega arith) (omega arith);
         again = λ e. rw (one.again (suc e), more.again e) refl;
       }
   dumped r d (object no_pairs) h =
@@ -85,7 +86,7 @@ mutual
             (Node.object (key_for [] k) [] one.node [] more.members))
             (sym (laid_out k (layout_text compact_layout (suc d) v) (more_pairs_text compact_layout d ps)))
             (object_spells r (nest v) [] _ [] _ one.node tt tt one.spells (most_nest_under ps) _ more.members
-            more.spell [] k tt h.0.0 new);
+            more.spell [] k tt h.0.0 _ (omega arith) (omega arith) new);
         again = λ e.
             let bytes : bytes_of (items_for k) ≡ k = bytes_of-items_for k h.0.0 in
             let kept : put_each ((bytes_of (items_for k), meaning one.node) ∷ members_meaning more.members)
@@ -98,19 +99,20 @@ mutual
       }
 
   dumped_values : (r : Reading) (d : ℕ) (vs : Values) → AreValues vs → DumpedValues r d vs
-  dumped_values r d no_values h = record { elements = no_elements; spell = no_elements_spell r; again = λ e. refl }
+  dumped_values r d no_values h = record { elements = no_elements; spell = no_elements_spell r 0; again = λ e. refl }
   dumped_values r d (value v vs) h =
       let one = dumped r (suc d) v h.0 in
       let more = dumped_values r d vs h.1 in
       record {
         elements = element [] one.node [] more.elements;
-        spell = element_spells r (nest v) [] _ [] _ one.node tt tt one.spells (most_nest vs) more.elements more.spell;
+        spell = element_spells r (nest v) [] _ [] _ one.node tt tt one.spells (most_nest vs) more.elements more.spell
+            _ (omega arith) (omega arith);
         again = λ e. rw (one.again (suc e), more.again e) refl;
       }
 
   dumped_pairs : (r : Reading) (d : ℕ) (ps : ValuePairs) → ArePairs ps → DumpedPairs r d ps
   dumped_pairs r d no_pairs h =
-      record { members = no_members; spell = no_members_spell r; keys = refl; again = λ e. refl }
+      record { members = no_members; spell = no_members_spell r 0; keys = refl; again = λ e. refl }
   dumped_pairs r d (pair k v ps) h =
       let one = dumped r (suc d) v h.1 in
       let more = dumped_pairs r d ps h.2 in
@@ -122,7 +124,7 @@ mutual
             (member (key_for [] k) [] one.node [] more.members))
             (sym (laid_out k (layout_text compact_layout (suc d) v) (more_pairs_text compact_layout d ps)))
             (member_spells r (nest v) [] _ [] _ one.node tt tt one.spells (most_nest_under ps) _ more.members
-            more.spell [] k tt h.0);
+            more.spell [] k tt h.0 _ (omega arith) (omega arith));
         keys = ap (λ y. y ∷ keys_of (members_meaning more.members)) bytes ∙ ap (λ ks. k ∷ ks) more.keys;
         again = λ e. rw (bytes, one.again (suc e), more.again e) refl;
       }

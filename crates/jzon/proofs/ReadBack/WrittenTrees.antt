@@ -101,15 +101,15 @@ string_spells r s u = record {
 
 -- ---- arrays and objects
 
-pub no_elements_spell : (r : Reading) → ElementsSpell r 0 (93 ∷ []) no_elements
-no_elements_spell r = record {
+pub no_elements_spell : (r : Reading) (high : ℕ) → ElementsSpell r high (93 ∷ []) no_elements
+no_elements_spell r high = record {
   utf8 = IsUtf8-from_ascii (93 ∷ []) (IsAscii-one 93 (omega arith));
   in_grammar = tt;
   unbroken = λ depth k h. ap (λ t. plain t k) (sym (chars-IsAscii (93 ∷ []) (IsAscii-one 93 (omega arith))));
 }
 
-pub no_members_spell : (r : Reading) → MembersSpell r 0 [] (125 ∷ []) no_members
-no_members_spell r = record {
+pub no_members_spell : (r : Reading) (high : ℕ) → MembersSpell r high [] (125 ∷ []) no_members
+no_members_spell r high = record {
   utf8 = IsUtf8-from_ascii (125 ∷ []) (IsAscii-one 125 (omega arith));
   in_grammar = tt;
   unbroken = λ seen depth k new h. ap (λ t. plain t k) (sym (chars-IsAscii (125 ∷ []) (IsAscii-one 125 (omega arith))));
@@ -138,7 +138,7 @@ key-plain r seen w key k u new =
     (cell 34 (breach_if t (duplicate (items_length (items_for key) + 1))) ∷ cell 58 None ∷ k))) none
     ∙ ap (λ q. plain w q) (quoted-plain key (cell 58 None ∷ k) u)
 
--- g and c: the whitespace around the value, whose text is x; b: the text after it
+-- g and c: the whitespace around the value, whose text is x; b: the text after it; most: a bound of both bounds
 module _ (r : Reading) (h : ℕ) (g x c b : List ℕ) (n : Node) (gap : IsWhitespace r g) (space : IsWhitespace r c)
     (node : NodeSpells r h x n) where
   run-plain : (depth : ℕ) (rest k : List Cell) → depth + h ≤ r.depth → rest ≡ plain (chars b) k
@@ -152,32 +152,33 @@ module _ (r : Reading) (h : ℕ) (g x c b : List ℕ) (n : Node) (gap : IsWhites
   IsUtf8-run v = IsUtf8-ascii_append g _ (IsAscii-whitespace r g gap)
       (IsUtf8-append x _ node.utf8 (IsUtf8-ascii_append c b (IsAscii-whitespace r c space) v))
 
-  module _ (high : ℕ) (es : Elements) (more : ElementsSpell r high b es) where
-    pub element_spells : ElementsSpell r (max h high) (44 ∷ run_text g x c b) (element g n c es)
-    element_spells = record {
-      utf8 = IsUtf8-ascii_append (44 ∷ []) _ (IsAscii-one 44 (omega arith)) (IsUtf8-run more.utf8);
-      in_grammar = (gap, node.in_grammar, space, more.in_grammar);
-      unbroken = λ depth k few.
-          ap (λ q. cell 44 None ∷ q) (run-plain depth _ k (omega arith) (more.unbroken depth k (omega arith)))
-          ∙ sym (text-ascii (44 ∷ []) (run_text g x c b) k (IsAscii-one 44 (omega arith)));
-    }
+  module _ (high : ℕ) (es : Elements) (more : ElementsSpell r high b es) (most : ℕ) (le : h ≤ most) (le' : high ≤ most)
+    where
+      pub element_spells : ElementsSpell r most (44 ∷ run_text g x c b) (element g n c es)
+      element_spells = record {
+        utf8 = IsUtf8-ascii_append (44 ∷ []) _ (IsAscii-one 44 (omega arith)) (IsUtf8-run more.utf8);
+        in_grammar = (gap, node.in_grammar, space, more.in_grammar);
+        unbroken = λ depth k few.
+            ap (λ q. cell 44 None ∷ q) (run-plain depth _ k (omega arith) (more.unbroken depth k (omega arith)))
+            ∙ sym (text-ascii (44 ∷ []) (run_text g x c b) k (IsAscii-one 44 (omega arith)));
+      }
 
-    pub array_spells : NodeSpells r (suc (max h high)) (91 ∷ run_text g x c b) (Node.array g n c es)
-    array_spells = record {
-      utf8 = IsUtf8-ascii_append (91 ∷ []) _ (IsAscii-one 91 (omega arith)) (IsUtf8-run more.utf8);
-      in_grammar = (gap, node.in_grammar, space, more.in_grammar);
-      unbroken = λ depth k few.
-          ap (λ t. cell 91 None ∷ plain g (node_cells r n (suc depth) (breach_if t deep)
-          (plain c (elements_cells r es (suc depth) k)))) (lt-leb r.depth depth (omega arith))
-          ∙ ap (λ q. cell 91 None ∷ q) (run-plain (suc depth) _ k (omega arith)
-          (more.unbroken (suc depth) k (omega arith)))
-          ∙ sym (text-ascii (91 ∷ []) (run_text g x c b) k (IsAscii-one 91 (omega arith)));
-    }
+      pub array_spells : NodeSpells r (suc most) (91 ∷ run_text g x c b) (Node.array g n c es)
+      array_spells = record {
+        utf8 = IsUtf8-ascii_append (91 ∷ []) _ (IsAscii-one 91 (omega arith)) (IsUtf8-run more.utf8);
+        in_grammar = (gap, node.in_grammar, space, more.in_grammar);
+        unbroken = λ depth k few.
+            ap (λ t. cell 91 None ∷ plain g (node_cells r n (suc depth) (breach_if t deep)
+            (plain c (elements_cells r es (suc depth) k)))) (lt-leb r.depth depth (omega arith))
+            ∙ ap (λ q. cell 91 None ∷ q) (run-plain (suc depth) _ k (omega arith)
+            (more.unbroken (suc depth) k (omega arith)))
+            ∙ sym (text-ascii (91 ∷ []) (run_text g x c b) k (IsAscii-one 91 (omega arith)));
+      }
 
   module _ (high : ℕ) (keys : List (List ℕ)) (ms : Members) (more : MembersSpell r high keys b ms) (w key : List ℕ)
-      (whitespace : IsWhitespace r w) (u : IsUtf8 key) where
+      (whitespace : IsWhitespace r w) (u : IsUtf8 key) (most : ℕ) (le : h ≤ most) (le' : high ≤ most) where
     pair-plain : (depth : ℕ) (seen : List (List ℕ)) (k : List Cell) → AreNew seen (key ∷ keys)
-        → depth + max h high ≤ r.depth → key_cells r seen (key_for w key) None
+        → depth + most ≤ r.depth → key_cells r seen (key_for w key) None
         (plain g (node_cells r n depth None (plain c (members_cells r ms (bytes_of (items_for key) ∷ seen) depth k))))
         ≡ plain (chars (pair_text w key g x c b)) k
     pair-plain depth seen k new few =
@@ -192,7 +193,7 @@ module _ (r : Reading) (h : ℕ) (g x c b : List ℕ) (n : Node) (gap : IsWhites
         (IsUtf8-append (quoted key) _ (IsUtf8-quoted key u)
         (IsUtf8-ascii_append (58 ∷ []) _ (IsAscii-one 58 (omega arith)) (IsUtf8-run more.utf8)))
 
-    pub member_spells : MembersSpell r (max h high) (key ∷ keys) (44 ∷ pair_text w key g x c b)
+    pub member_spells : MembersSpell r most (key ∷ keys) (44 ∷ pair_text w key g x c b)
         (member (key_for w key) g n c ms)
     member_spells = record {
       utf8 = IsUtf8-ascii_append (44 ∷ []) _ (IsAscii-one 44 (omega arith)) IsUtf8-pair;
@@ -201,7 +202,7 @@ module _ (r : Reading) (h : ℕ) (g x c b : List ℕ) (n : Node) (gap : IsWhites
           ∙ sym (text-ascii (44 ∷ []) (pair_text w key g x c b) k (IsAscii-one 44 (omega arith)));
     }
 
-    pub object_spells : AreNew [] (key ∷ keys) → NodeSpells r (suc (max h high)) (123 ∷ pair_text w key g x c b)
+    pub object_spells : AreNew [] (key ∷ keys) → NodeSpells r (suc most) (123 ∷ pair_text w key g x c b)
         (Node.object (key_for w key) g n c ms)
     object_spells new = record {
       utf8 = IsUtf8-ascii_append (123 ∷ []) _ (IsAscii-one 123 (omega arith)) IsUtf8-pair;

@@ -165,20 +165,15 @@ pub hex_four : (bs : List ℕ) (start a b c d : ℕ) → IsUtf8 bs → IsCharBou
     → is_ascii_hexdigit a ≡ true → is_ascii_hexdigit b ≡ true → is_ascii_hexdigit c ≡ true → is_ascii_hexdigit d ≡ true
     → HexRead bs start (start + 4) (add_hex (add_hex (add_hex (digit_value a) b) c) d)
 hex_four bs start a b c d text here room ea eb ec ed ha hb hc hd =
-    let digit : (i x u : ℕ) → HexRead bs start i u → start ≤ i → i < start + 4 → x ≡ get_or bs i 0
-    → is_ascii_hexdigit x ≡ true → HexRead bs start (i + 1) (add_hex u x) = λ i x u k low high e h.
-    rw e (hex_more bs start i u k text low high (omega arith) (ap is_ascii_hexdigit (sym e) ∙ h)) in
+    let digit : (i j x u : ℕ) → HexRead bs start i u → start ≤ i → i < start + 4 → x ≡ get_or bs i 0
+    → is_ascii_hexdigit x ≡ true → i + 1 ≡ j → HexRead bs start j (add_hex u x) = λ i j x u k low high e h next.
+    rw (← next, e) (hex_more bs start i u k text low high (omega arith) (rw e at h)) in
     let one : HexRead bs start (start + 1) (digit_value a) =
     subst (HexRead bs start (start + 1)) (omega arith)
-    (digit start a 0 (hex_begun bs start here) (omega arith) (omega arith) ea ha) in
-    let two : HexRead bs start (start + 2) (add_hex (digit_value a) b) =
-    subst (λ n. HexRead bs start n (add_hex (digit_value a) b)) (omega arith)
-    (digit (start + 1) b (digit_value a) one (omega arith) (omega arith) eb hb) in
-    let three : HexRead bs start (start + 3) (add_hex (add_hex (digit_value a) b) c) =
-    subst (λ n. HexRead bs start n (add_hex (add_hex (digit_value a) b) c)) (omega arith)
-    (digit (start + 2) c _ two (omega arith) (omega arith) ec hc) in
-    subst (λ n. HexRead bs start n (add_hex (add_hex (add_hex (digit_value a) b) c) d)) (omega arith)
-    (digit (start + 3) d _ three (omega arith) (omega arith) ed hd)
+    (digit start (start + 1) a 0 (hex_begun bs start here) (omega arith) (omega arith) ea ha refl) in
+    let two = digit (start + 1) (start + 2) b _ one (omega arith) (omega arith) eb hb (omega arith) in
+    let three = digit (start + 2) (start + 3) c _ two (omega arith) (omega arith) ec hc (omega arith) in
+    digit (start + 3) (start + 4) d _ three (omega arith) (omega arith) ed hd (omega arith)
 
 -- x is the value of the digit b
 abbrev pub Digit : ℕ → ℕ → Type 0
