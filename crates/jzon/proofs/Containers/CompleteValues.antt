@@ -115,19 +115,18 @@ module _ (r : Reading) (G : Outcome → Type 0) where
         (refl, blanks b (before_key fs []) _ ok refl (rw (class-char r.strict closes_object) (refl, h)))
     complete_node (Node.array b n c es) fs k ok h =
         let inner : Frames = array_frame fs [] in
-        let rest = blanks c (after_value inner (meaning n)) _ ok.2 refl (complete_elements es fs [] (meaning n) k ok.3 h)
-        in
-        rw (class-char r.strict opens_array) (refl, blanks b (before inner) _ ok.0 refl (complete_node n inner _ ok.1 rest))
+        let rest = blanks c (after_value inner (meaning n)) _ ok.2 refl
+        (complete_elements es fs [] (meaning n) k ok.3 h) in
+        let first = blanks b (before inner) _ ok.0 refl (complete_node n inner _ ok.1 rest) in
+        rw (class-char r.strict opens_array) (refl, first)
     complete_node (Node.object key b n c ms) fs k ok h =
         let name : List ℕ = bytes_of key.items in
         let inner : Frames = object_frame fs [] name in
         let rest = blanks c (after_value inner (meaning n)) _ ok.3 refl (complete_members ms fs [] name (meaning n)
         (name ∷ []) k (knows-put [] [] name (meaning n) (λ q. refl)) ok.4 h) in
-        rw (class-char r.strict opens_object) (
-          refl,
-          complete_key fs [] [] key _ (λ q. refl) ok.0
-              (blanks b (before inner) _ ok.1 refl (complete_node n inner _ ok.2 rest)),
-        )
+        let first = complete_key fs [] [] key _ (λ q. refl) ok.0
+        (blanks b (before inner) _ ok.1 refl (complete_node n inner _ ok.2 rest)) in
+        rw (class-char r.strict opens_object) (refl, first)
 
     complete_elements : (es : Elements) (fs : Frames) (vs : List Value) (v : Value) (k : List Cell) → AreElements r es
         → F k (after_value fs (value.array (with_prefix vs (value.value v (elements_meaning es)))))
@@ -139,11 +138,9 @@ module _ (r : Reading) (G : Outcome → Type 0) where
         let inner : Frames = array_frame fs (vs ++ v ∷ []) in
         let rest : List Cell = plain c (elements_cells r es (suc (frames_depth fs)) k) in
         let more = complete_elements es fs (vs ++ v ∷ []) (meaning n) k ok.3 (rw with_prefix-append h) in
-        rw (class-char r.strict comma) (
-          refl,
-          blanks b (before inner) _ ok.0 refl (rw (← (not_first_value r fs vs v))
-              (complete_node n inner rest ok.1 (blanks c (after_value inner (meaning n)) _ ok.2 refl more))),
-        )
+        let next = complete_node n inner rest ok.1 (blanks c (after_value inner (meaning n)) _ ok.2 refl more) in
+        rw (class-char r.strict comma)
+        (refl, blanks b (before inner) _ ok.0 refl (rw (← (not_first_value r fs vs v)) next))
 
     complete_members : (ms : Members) (fs : Frames) (es : EntriesSoFar) (key : List ℕ) (v : Value) (seen : List (List ℕ))
         (k : List Cell) → Knows seen (put key v es) → AreMembers r ms
@@ -158,12 +155,10 @@ module _ (r : Reading) (G : Outcome → Type 0) where
         (plain c (members_cells r ms (bytes_of key'.items ∷ seen) (suc (frames_depth fs)) k))) in
         let more = complete_members ms fs so_far (bytes_of key'.items) (meaning n) (bytes_of key'.items ∷ seen) k
         (knows-put seen so_far (bytes_of key'.items) (meaning n) knows) ok.4 h in
-        rw (class-char r.strict comma) (
-          refl,
-          subst (λ m. F (key_cells r seen key' m rest) (before_key fs so_far))
-              (not_first_key r fs key v es) (complete_key fs so_far seen key' rest knows ok.0 (blanks b (before inner) _ ok.1
-              refl (complete_node n inner _ ok.2 (blanks c (after_value inner (meaning n)) _ ok.3 refl more)))),
-        )
+        let next = complete_key fs so_far seen key' rest knows ok.0 (blanks b (before inner) _ ok.1 refl
+        (complete_node n inner _ ok.2 (blanks c (after_value inner (meaning n)) _ ok.3 refl more))) in
+        rw (class-char r.strict comma)
+        (refl, subst (λ m. F (key_cells r seen key' m rest) (before_key fs so_far)) (not_first_key r fs key v es) next)
 
 pub complete : (r : Reading) (d : Document) → IsDocument r d
     → Follows r (λ o. o ≡ meant (meaning d.node)) (cells r d) (before no_frames)

@@ -49,7 +49,8 @@ deep_item_on r Object fs c left h s n = deep_key_on r fs c left _ (ap (λ t. bre
 -- a first element or key where it would open one container too many
 pub deep_item : (r : Reading) (bs : List ℕ) (i : ℕ) (b : ContainerKind) (fs : Frames) → IsUtf8 bs → IsCharBoundary bs i
     → i < length bs → is_whitespace r.strict (get_or bs i 0) ≡ false → get_or bs i 0 ≢ closer b
-    → IsTrue (nat_le r.depth (frames_depth fs)) → from r bs (after_opener b fs) i ≡ refused (limit deep) (chars (drop i bs))
+    → IsTrue (nat_le r.depth (frames_depth fs))
+    → from r bs (after_opener b fs) i ≡ refused (limit deep) (chars (drop i bs))
 deep_item r bs i b fs u at lt s n h =
     from_deep r bs i (after_opener b fs) u at lt (deep_item_on r b fs _ _ h s n)
     (λ c wide. deep_item_on r b fs c _ h (wide_is_no_space r.strict c wide)

@@ -303,8 +303,8 @@ pub view-array_ended : (s : Inside) (vs : Vec JsonValue Global) (o : OpenContain
     → containers_of (record s { values = vs }) ≡ innermost_ended o
 view-array_ended s vs o h seen none cut =
     let n = s.innermost.first_value in
-    let no_keys : drop s.innermost.first_key s.keys.items ≡ [] = ap (λ (p : OpenContainers). p.innermost.keys) seen ∙ none
-    in
+    let no_keys : drop s.innermost.first_key s.keys.items ≡ [] =
+    ap (λ (p : OpenContainers). p.innermost.keys) seen ∙ none in
     let no_values = drop_all n (take n s.values.items) (omega (arith, length-take n s.values.items)) in
     rw (cut, no_values, take-take n n s.values.items (omega arith), no_keys) (ap innermost_ended seen)
 

@@ -1,7 +1,7 @@
 -- The outcome of the rest of the text after each part of a number: another part, the end, or a missing digit.
 use Rattle.jzon_base.proofs.Common.{◌≡◌, ◌∙◌, ℕ, ◌+◌, ◌<◌, ◌≤◌, List, [], ◌∷◌, ◌++◌, length, drop, Bool, true, false}
-use Rattle.jzon_base.proofs.Common.{◌==◌, Option, None, refl, sym, ap, arith, true≢false, append-nil, IsTrue, ⊤, is_ascii_digit}
-use Rattle.jzon_base.proofs.Common.{eqb-false}
+use Rattle.jzon_base.proofs.Common.{◌==◌, Option, None, refl, sym, ap, arith, true≢false, append-nil, IsTrue, ⊤}
+use Rattle.jzon_base.proofs.Common.{is_ascii_digit, eqb-false}
 use Rattle.jzon_base.specs.Digits.{kept_len, dropped, kept_fraction}
 use Rattle.jzon.specs.Reading.{Reading}
 use Rattle.jzon.specs.Grammar.{Sign, unsigned, AreDigits, IsDigits, is_exponent_letter, Exponent}

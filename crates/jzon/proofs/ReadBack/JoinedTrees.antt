@@ -1,5 +1,5 @@
 -- Trees of what a style joins: values separated by commas with whitespace around them, and members.
-use Rattle.jzon_base.proofs.Common.{◌≡◌, ◌∙◌, ℕ, ◌≤◌, max, List, [], ◌∷◌, ◌++◌, map, refl, ap, append_assoc, arith}
+use Rattle.jzon_base.proofs.Common.{◌≡◌, ◌∙◌, ℕ, ◌≤◌, List, [], ◌∷◌, ◌++◌, map, refl, ap, append_assoc, arith}
 use Rattle.jzon_base.proofs.Common.{IsUtf8, ⊤, AllByRecursion}
 use Rattle.jzon_base.specs.PairList.{keys_of}
 use Rattle.jzon_tree.specs.Value.{Value, value, values_of}

@@ -1,5 +1,5 @@
 -- The meaning of a tree that breaks no limit is a value that the laws `redump` and `reads_back` apply to.
-use Rattle.jzon_base.proofs.Common.{◌≡◌, ℕ, suc, ◌-◌, ◌<◌, ◌≤◌, max, ℤ, List, [], ◌∷◌, ◌++◌, Bool}
+use Rattle.jzon_base.proofs.Common.{◌≡◌, ℕ, suc, ◌-◌, ◌<◌, ◌≤◌, ℤ, List, [], ◌∷◌, ◌++◌, Bool}
 use Rattle.jzon_base.proofs.Common.{true, false, ◌&&◌, nat_le, if◌then◌else◌, Option, None, codes, refl, sym, subst}
 use Rattle.jzon_base.proofs.Common.{arith, FitsSigned, IsUtf8, w16, fold, AllByRecursion, IsDistinct, bytes_eq, scalar}
 use Rattle.jzon_base.proofs.Common.{scalars, and_parts, nat_tests, ints, clamps, AllPairs-from_IsDistinct}
@@ -110,7 +110,7 @@ object_few h (p ∷ ps) all = omega (arith, (pairs_held h (p ∷ ps) all).2)
 object_lawful : (h : ℕ) (ps : List (List ℕ × Value)) → AreHeldPairs h ps → IsDistinct bytes_eq (keys_of ps)
     → IsValue (object (pairs_of ps))
 object_lawful h ps all distinct =
-    ((pairs_held h ps all).0, rw list_of_pairs-pairs_of (AllPairs-from_IsDistinct bytes_eq-Decides (keys_of ps) distinct))
+    ((pairs_held h ps all).0, rw list_of_pairs-pairs_of (AllPairs-from_IsDistinct bytes_eq-Decides _ distinct))
 
 -- ---- values
 

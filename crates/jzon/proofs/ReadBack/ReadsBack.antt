@@ -1,5 +1,5 @@
 -- Each text that is written for a value without NaN is read as an equal value.
-use Rattle.jzon_base.proofs.Common.{◌≡◌, ◌∙◌, ◌≢◌, ℕ, suc, ◌≤◌, max, List, [], ◌∷◌, ◌++◌, length, map, Bool, true}
+use Rattle.jzon_base.proofs.Common.{◌≡◌, ◌∙◌, ◌≢◌, ℕ, suc, ◌≤◌, List, [], ◌∷◌, ◌++◌, length, map, Bool, true}
 use Rattle.jzon_base.proofs.Common.{false, cond, Option, Some, refl, sym, ap, subst, arith, IsUtf8, IsTrue, AllPairs}
 use Rattle.jzon_base.proofs.Common.{AllByRecursion, IsDistinct, bytes_eq, and_parts}
 use Rattle.jzon_base.proofs.Common.{and_from, length-map, bytes_eq-Decides}
@@ -94,8 +94,8 @@ object_from r s dent k v ps b (e ∷ es) fit each distinct alike w =
       node = node;
       spells =
           rw (w.4, j.text) (object_spells r high e.gap e.text j.after j.rest e.node each.0.whitespace j.space
-          each.0.spells high _ j.members j.spell j.before e.key j.whitespace each.0.utf8 high (omega arith) (omega arith)
-          (AreNew-IsDistinct (entry_keys (e ∷ es)) distinct));
+          each.0.spells high _ j.members j.spell j.before e.key j.whitespace each.0.utf8 high (omega arith)
+          (omega arith) (AreNew-IsDistinct (entry_keys (e ∷ es)) distinct));
       alike =
           rw means (object-intro (pairs_of (map entry_meaning (e ∷ es))) (pair k v ps)
           (λ q. ap (λ qs. same_at (find q qs) (find q (list_of_pairs (pair k v ps))))

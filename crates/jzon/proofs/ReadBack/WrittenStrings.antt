@@ -130,7 +130,7 @@ items-plain : (cs : List ℕ) (k : List Cell) → scalars cs ≡ true → items_
 items-plain [] k h = refl
 items-plain (c ∷ cs) k h =
     let t = and_parts (scalar c) (scalars cs) h in
-    (written c t.0).spelled (items_cells (items_of cs) k) ∙ rw (items-plain cs k t.1, plain-append (escaped_byte c)) refl
+    (written c t.0).spelled _ ∙ rw (items-plain cs k t.1, plain-append)
 
 items_mean : (cs : List ℕ) → scalars cs ≡ true → characters_of (items_of cs) ≡ cs
 items_mean [] h = refl

@@ -1,5 +1,5 @@
 -- Trees of written texts: a tree that breaks no limit, with the bytes that it spells.
-use Rattle.jzon_base.proofs.Common.{◌≡◌, ◌∙◌, ℕ, suc, ◌+◌, ◌<◌, ◌≤◌, ◌^◌, max, ℤ, List, [], ◌∷◌, ◌++◌, Bool, true}
+use Rattle.jzon_base.proofs.Common.{◌≡◌, ◌∙◌, ℕ, suc, ◌+◌, ◌<◌, ◌≤◌, ◌^◌, ℤ, List, [], ◌∷◌, ◌++◌, Bool, true}
 use Rattle.jzon_base.proofs.Common.{false, ◌&&◌, codes, None, refl, sym, ap, arith, chars, FitsSigned, IsUtf8, w16}
 use Rattle.jzon_base.proofs.Common.{IsAscii, chars-append, chars-IsAscii, IsUtf8-append, IsUtf8-from_ascii, IsAscii-nil}
 use Rattle.jzon_base.proofs.Common.{IsAscii-cons, lt-leb}
@@ -208,8 +208,8 @@ module _ (r : Reading) (h : ℕ) (g x c b : List ℕ) (n : Node) (gap : IsWhites
       utf8 = IsUtf8-ascii_append (123 ∷ []) _ (IsAscii-one 123 (omega arith)) IsUtf8-pair;
       in_grammar = ((whitespace, items_for_in_grammar key u, tt), gap, node.in_grammar, space, more.in_grammar);
       unbroken = λ depth k few.
-          ap (λ t. cell 123 None ∷ key_cells r [] (key_for w key) (breach_if t deep) (plain g (node_cells r n (suc depth)
-          None (plain c (members_cells r ms (bytes_of (items_for key) ∷ []) (suc depth) k)))))
+          ap (λ t. cell 123 None ∷ key_cells r [] (key_for w key) (breach_if t deep) (plain g (node_cells r n
+          (suc depth) None (plain c (members_cells r ms (bytes_of (items_for key) ∷ []) (suc depth) k)))))
           (lt-leb r.depth depth (omega arith))
           ∙ ap (λ q. cell 123 None ∷ q) (pair-plain (suc depth) [] k new (omega arith))
           ∙ sym (text-ascii (123 ∷ []) (pair_text w key g x c b) k (IsAscii-one 123 (omega arith)));

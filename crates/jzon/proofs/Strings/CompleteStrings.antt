@@ -104,7 +104,8 @@ module _ (r : Reading) (G : Outcome → Type 0) (role : Role) (bs : List ℕ) wh
       (refl, rw (simple_not_u c ok, ok) (refl, rw (bytes-one bs) at h))
   read_item (single u) q ok h = (refl, (refl, read_code 3 0 u q ok.0 (rw ok.1 (rw (bytes-one bs) at h))))
   read_item (double u v) q ok h =
-      let second = read_second (code_unit u) 3 0 v _ q ok.2 (meets_pair (is_pair u v) (code_unit u) (code_unit v) q h) in
+      let second = read_second (code_unit u) 3 0 v _ q ok.2
+      (meets_pair (is_pair u v) (code_unit u) (code_unit v) q h) in
       (refl, (refl, read_code 3 0 u _ ok.0 (rw ok.1 (refl, (refl, second)))))
 
 module _ (r : Reading) (G : Outcome → Type 0) (role : Role) where

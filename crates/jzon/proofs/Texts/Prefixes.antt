@@ -137,7 +137,8 @@ module _ (r : Reading) (prefix : List ℕ) (c left : ℕ) (p s : State) (m : Opt
 -- one more character, without a breach
 pub reaches_next : (r : Reading) (prefix : List ℕ) (c left : ℕ) (p s : State) → Reaches r prefix (suc left) p
     → move r p c (suc left) ≡ go None s → Reaches r (prefix ++ (c ∷ [])) left s
-reaches_next r prefix c left p s reached e = record { onward = onward; back = onto_next r prefix c left p s None reached e }
+reaches_next r prefix c left p s reached e =
+    record { onward = onward; back = onto_next r prefix c left p s None reached e }
   where
     onward : (d : Document) (h : Completes r (prefix ++ (c ∷ [])) d) → Followed r (prefix ++ (c ∷ [])) h.1 left s d
     onward d h =

@@ -12,7 +12,7 @@ use Rattle.jzon.specs.Grammar as grammar
 use Rattle.jzon.specs.Fault.{Spells, Parses}
 use Rattle.jzon.specs.Private.Machine.{no_frames, before, Outcome, meant, refused, outcome}
 use Rattle.jzon.proofs.Strings.StringCharacters.{are_hex, hex-true}
-use Rattle.jzon.proofs.WorkedRows.Samples.{is_numeral, is_numeral-true, left-true, right-true}
+use Rattle.jzon.proofs.WorkedRows.Samples.{is_numeral, is_numeral-true, parts-true}
 use Rattle.jzon.proofs.Texts.TreeCharacters.{document_chars, spells}
 use Rattle.jzon.proofs.Texts.OneTree.{same_tree}
 use Rattle.jzon.proofs.Texts.Verdict.{Verdict, answers}
@@ -62,15 +62,15 @@ each-true test (c ∷ w) h = let t = and_parts _ _ h in (t.0, each-true test w t
 item-true : (i : Item) → IsTrue (is_item i) → IsItem i
 item-true (grammar.plain c) h = h
 item-true (simple c) h = h
-item-true (single u) h = search (left-true, right-true, hex-true, not-true)
-item-true (double u v) h = search (left-true, right-true, hex-true)
+item-true (single u) h = search (parts-true, hex-true, not-true)
+item-true (double u v) h = search (parts-true, hex-true)
 
 items-true : (is : List Item) → IsTrue (list_all is_item is) → AreItems is
 items-true [] h = tt
 items-true (i ∷ is) h = let t = and_parts _ _ h in (item-true i t.0, items-true is t.1)
 
 key-true : (r : Reading) (k : Key) → IsTrue (is_key r k) → IsKey r k
-key-true r k h = search (left-true, right-true, each-true, items-true)
+key-true r k h = search (parts-true, each-true, items-true)
 
 mutual
   node-true : (r : Reading) (n : Node) → IsTrue (is_node r n) → IsNode r n
@@ -80,16 +80,16 @@ mutual
   node-true r (Node.string is) h = items-true is h
   node-true r (Node.empty_array b) h = each-true _ b h
   node-true r (Node.empty_object b) h = each-true _ b h
-  node-true r (Node.array b n c es) h = search (left-true, right-true, each-true, node-true r n, elements-true r es)
-  node-true r (Node.object k b n c ms) h = search (left-true, right-true, key-true, each-true, node-true r n, members-true r ms)
+  node-true r (Node.array b n c es) h = search (parts-true, each-true, node-true r n, elements-true r es)
+  node-true r (Node.object k b n c ms) h = search (parts-true, key-true, each-true, node-true r n, members-true r ms)
 
   elements-true : (r : Reading) (es : Elements) → IsTrue (are_elements r es) → AreElements r es
   elements-true r no_elements h = tt
-  elements-true r (element b n c es) h = search (left-true, right-true, each-true, node-true r n, elements-true r es)
+  elements-true r (element b n c es) h = search (parts-true, each-true, node-true r n, elements-true r es)
 
   members-true : (r : Reading) (ms : Members) → IsTrue (are_members r ms) → AreMembers r ms
   members-true r no_members h = tt
-  members-true r (member k b n c ms) h = search (left-true, right-true, key-true, each-true, node-true r n, members-true r ms)
+  members-true r (member k b n c ms) h = search (parts-true, key-true, each-true, node-true r n, members-true r ms)
 
 -- ---- one text
 

@@ -146,6 +146,9 @@ left-true a b h = (and_parts a b h).0
 pub right-true : (a b : Bool) → IsTrue (a && b) → IsTrue b
 right-true a b h = (and_parts a b h).1
 
+-- the parts of a test that passes
+pub ruleset parts-true = (left-true, right-true)
+
 are_digits-true : (ds : List ℕ) → IsTrue (are_digits ds) → AreDigits ds
 are_digits-true [] h = tt
 are_digits-true (d ∷ ds) h = let t = and_parts _ _ h in (t.0, are_digits-true ds t.1)
@@ -164,4 +167,4 @@ is_exponent-true None h = tt
 is_exponent-true (Some e) h = let t = and_parts _ _ h in (t.0, is_digits-true e.digits t.1)
 
 pub is_numeral-true : (n : Numeral) → IsTrue (is_numeral n) → IsNumeral n
-is_numeral-true n h = search (left-true, right-true, is_whole-true, are_digits-true, is_exponent-true)
+is_numeral-true n h = search (parts-true, is_whole-true, are_digits-true, is_exponent-true)
