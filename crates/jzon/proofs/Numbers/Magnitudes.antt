@@ -119,8 +119,7 @@ reads_whole_alone bs i ws u w no_point =
       all_fraction = All-nil IsDigit;
       to_letter = λ few has lt letter r fs negative. whole_to_letter r fs negative (get_or bs i 0) ws
           (chars (drop (i + 1) bs)) (get_or bs e 0) (chars (drop (e + 1) bs))
-          (subst (ReadsWhole r (get_or bs i 0) ws (chars (drop (i + 1) bs)))
-          (next_is bs e (get_or bs e 0) u w.boundary lt refl (letter_is_ascii (get_or bs e 0) letter)) (w.reads r))
+          (rw (next_is bs e (get_or bs e 0) u w.boundary lt refl (letter_is_ascii _ letter)) at (w.reads r))
           (omega (arith, few)) letter;
       to_end = λ few has no_letter r fs negative. whole_to_end r fs negative (get_or bs i 0) ws
           (chars (drop (i + 1) bs)) (chars (drop e bs)) (w.reads r) (omega (arith, few))
@@ -141,12 +140,10 @@ to_point : (bs : List ℕ) (i p : ℕ) (ws ds : List ℕ) → IsUtf8 bs → Whol
     → dropped ws ds < 32768 → LeadsTo bs i (p + 1) (λ fs negative. numeral fs negative (pointed ws))
 unfolding from
 to_point bs i p ws ds u w at lt is_point few r fs negative =
-    let reads : ReadsWhole r (get_or bs i 0) ws (chars (drop (i + 1) bs)) (chars (drop p bs)) =
-    subst (λ n. ReadsWhole r (get_or bs i 0) ws (chars (drop (i + 1) bs)) (chars (drop n bs))) (sym at) (w.reads r) in
-    let boundary : IsCharBoundary bs p = subst (IsCharBoundary bs) (sym at) w.boundary in
+    let reads = rw (← at) at (w.reads r) in
+    let boundary = rw (← at) at w.boundary in
     whole_to_point r fs negative (get_or bs i 0) ws (chars (drop (i + 1) bs)) (chars (drop (p + 1) bs)) ds
-    (subst (ReadsWhole r (get_or bs i 0) ws (chars (drop (i + 1) bs)))
-    (next_is bs p 46 u boundary lt is_point (omega arith)) reads) few
+    (rw (next_is bs p 46 u boundary lt is_point (omega arith)) at reads) few
 
 fraction_too_many : (bs : List ℕ) (j : ℕ) (ws ds : List ℕ) → AreDigitsAt bs j ds → 32769 ≤ kept_fraction ws ds
     → (r : Reading) (fs : Frames) (negative : Bool)

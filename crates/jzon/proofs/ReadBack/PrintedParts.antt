@@ -134,16 +134,9 @@ number_text-above s m e above = ap (λ t. sign_text s ++ t) (if-ne m 0 (codes "0
 pub means_as : (s : Bool) (m : ℕ) (e : ℤ) (n : Numeral) (d : Decimal) → grammar.IsNumeral n
     → numeral_spelled n ≡ number_text s m e → number_of n ≡ d
     → same d (parts s m e) ≡ true → decimal_text d ≡ number_text s m e → HasNumeral s m e
-means_as s m e n d ok spelled means alike prints = (
-  n,
-  record {
-    in_grammar = ok;
-    spelled = spelled;
-    alike = ap (λ x. same x (parts s m e)) means
-        ∙ alike;
-    prints = ap decimal_text means ∙ prints;
-  },
-)
+means_as s m e n d ok spelled means alike prints =
+    let same_value = ap (λ x. same x (parts s m e)) means ∙ alike in
+    (n, record { in_grammar = ok; spelled = spelled; alike = same_value; prints = ap decimal_text means ∙ prints })
 
 clamp_small : (e : ℤ) → FitsSigned w16 e → clamp e ≡ e
 clamp_small e fits = omega (arith, ints, clamps)
@@ -162,9 +155,7 @@ exact_parts s whole fraction x m e is fits sum small =
     let inner : (pos (dropped whole fraction) -ℤ pos (kept_fraction whole fraction)) +ℤ written_exponent x
     ≡ e = rw (none, some) sum in
     let power : read_exponent whole fraction (written_exponent x) ≡ e = ap clamp inner ∙ clamp_small e small in
-    ap (λ b. parts b (digits_number (kept (whole ++ fraction))) (read_exponent whole fraction (written_exponent x)))
-    (not-not s)
-    ∙ ap (λ v. parts s v (read_exponent whole fraction (written_exponent x))) value ∙ ap (parts s m) power
+    rw (not-not s, value, power)
 
 pub minus-is : (s : Bool) → minus_spelled (not s) ≡ sign_text s
 minus-is true = refl
