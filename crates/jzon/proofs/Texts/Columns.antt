@@ -60,5 +60,7 @@ column_of_last_line bs i j u none at from to =
     ap chars (sym (take-append-drop i bs)) ∙ chars-append (take i bs) (drop i bs) (IsUtf8-take bs i u from)
     ∙ ap (λ z. chars (take i bs) ++ z) (chars_past_char (drop i bs) (drop j bs) 10 (IsUtf8-drop bs i u from) at.split)
     in
-    let line = on_last_line (chars (take i bs)) (chars (drop j bs)) (characters_of (drop j bs) (IsUtf8-drop bs j u to) none) in
+    let line =
+    on_last_line (chars (take i bs)) (chars (drop j bs)) (characters_of (drop j bs) (IsUtf8-drop bs j u to) none)
+    in
     rw (split, line, same)
