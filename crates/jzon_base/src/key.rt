@@ -1,6 +1,6 @@
 //! A key of an object: text that is stored inline if it is short (docs/RULES.md, "Short and long
 //! strings").
-ghost use Rattle.std.specs.Prelude.{◌≡◌, ◌<◌, ◌≤◌, ◌++◌, ◌∷◌, List, ℕ, [], length, take, string_bytes, vec_len, vec_capacity, IfOk, IsOkUnless, MatchOption, OnErr, OnOk};
+ghost use Rattle.std.specs.Prelude.{◌≡◌, ◌<◌, ◌≤◌, ◌++◌, ◌∷◌, List, ℕ, [], length, take, string_bytes, IfOk, IsOkUnless, OnErr, OnOk};
 ghost use Rattle.std.specs.Str.{bytes_eq};
 ghost use Rattle.jzon_base.specs.Key.{key_bytes};
 ghost use Rattle.std.specs.Cmp.{partial_equiv_from_equiv};
@@ -37,17 +37,6 @@ impl Model for Key {
 }
 
 impl Key {
-    /// The key with this text, which is stored inline.
-    #[inline(always)]
-    fn short(text: &str) -> Key
-        requires { length text.now ≤ INLINE_MAX }
-        ensures { result ≡ text.now }
-    {
-        Key {
-            text: Text::Inline(inline::text_in(text)),
-        }
-    }
-
     /// The key with this text. Text of up to 32 bytes allocates nothing; for longer text the error
     /// is a failed allocation.
     pub fn new(alloc: Global, text: &str) -> Result<Key, AllocError>
@@ -55,39 +44,11 @@ impl Key {
         ensures long { OnErr result (32 < length text.now) }
     {
         if text.len() <= INLINE_MAX {
-            return Ok(Key::short(text));
+            let text = Text::Inline(inline::text_in(text));
+            return Ok(Key { text });
         }
-        Ok(Key {
-            text: Text::Owned(String::from_str(alloc, text)?),
-        })
-    }
-
-    /// The key with this text if it is longer than 32 bytes. It is made before `push`, which doesn't
-    /// allocate. The error is a failed allocation.
-    #[inline(always)]
-    pub(crate) fn long(alloc: Global, text: &str) -> Result<Option<Key>, AllocError>
-        ensures bytes { IfOk result (λ long. MatchOption long (length text.now ≤ 32)
-            (λ k. k ≡ text.now)) }
-        ensures long { OnErr result (32 < length text.now) }
-    {
-        if text.len() <= INLINE_MAX {
-            return Ok(None);
-        }
-        Ok(Some(Key::new(alloc, text)?))
-    }
-
-    /// Appends the key with this text to `keys`, which have room. `long` is what `Key::long`
-    /// returned for the text. A key that is stored inline is made here, so that it isn't moved.
-    #[inline(always)]
-    pub(crate) fn push(keys: &mut Vec<Key>, text: &str, long: Option<Key>)
-        requires room { vec_len keys.old < vec_capacity keys.old }
-        requires long { MatchOption long (length text.now ≤ 32) (λ k. k ≡ text.now) }
-        ensures { keys.new.items ≡ keys.old.items ++ text.now ∷ [] }
-    {
-        match long {
-            Some(key) => keys.push_reserved(key),
-            None => keys.push_reserved(Key::short(text)),
-        }
+        let text = Text::Owned(String::from_str(alloc, text)?);
+        Ok(Key { text })
     }
 
     /// Appends the key with this text, with which `wide` begins, to `keys`. It is made there, so

@@ -297,9 +297,9 @@ impl Keys {
         // All allocations come before `Key::push`, so a failed one leaves the keys as they were.
         reserve_next(values)?;
         reserve_next(&mut self.keys)?;
-        let long = Key::long(alloc, name)?;
+        let key = Key::new(alloc, name)?;
         add_entry(alloc, self.keys.as_slice(), &mut self.index, name, spot)?;
-        Key::push(&mut self.keys, name, long);
+        self.keys.push_reserved(key);
         Ok(None)
     }
 
