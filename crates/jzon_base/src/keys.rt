@@ -179,10 +179,7 @@ impl Keys {
     pub fn new(alloc: Global) -> Keys
         ensures { result ≡ [] }
     {
-        Keys {
-            keys: Vec::new(alloc),
-            index: Runs::new(alloc),
-        }
+        Keys::from_distinct(alloc, Vec::new(alloc))
     }
 
     /// No key, with room for `capacity` of them, and for up to 1,024 index entries if `capacity` is
@@ -190,10 +187,9 @@ impl Keys {
     pub fn with_capacity(alloc: Global, capacity: usize) -> Result<Keys, AllocError>
         ensures { IfOk result (λ k. k ≡ []) }
     {
-        Ok(Keys {
-            keys: Vec::with_capacity(alloc, capacity)?,
-            index: Runs::with_capacity(alloc, capacity)?,
-        })
+        let keys = Vec::with_capacity(alloc, capacity)?;
+        let index = Runs::with_capacity(alloc, capacity)?;
+        Ok(Keys { keys, index })
     }
 
     /// Distinct keys, without an index.
@@ -202,10 +198,8 @@ impl Keys {
         requires { IsDistinct bytes_eq keys.items }
         ensures { result ≡ keys.items }
     {
-        Keys {
-            keys,
-            index: Runs::new(alloc),
-        }
+        let index = Runs::new(alloc);
+        Keys { keys, index }
     }
 
     /// The keys and the values of entries that are put one after the other: those of equal keys
@@ -221,11 +215,11 @@ impl Keys {
         ensures merged { IfOk result (λ r. zip r.0 r.1.items
             ≡ put_each (zip keys.items values.items)) }
     {
-        if LINEAR_MAX < keys.len() {
-            if let Some(entries) = entries::of(alloc, keys.as_slice())? {
-                let index = Runs::of(alloc, entries)?;
-                return Ok((Keys { keys, index }, values));
-            }
+        if LINEAR_MAX < keys.len()
+            && let Some(entries) = entries::of(alloc, keys.as_slice())?
+        {
+            let index = Runs::of(alloc, entries)?;
+            return Ok((Keys { keys, index }, values));
         }
         put_each(alloc, keys, values)
     }

@@ -12,7 +12,7 @@ invariant_of-result g c =
     let distinct = rw (c.in-Some.is, c.as_slice.ensures.value) at c.in_ok-entries.ensures.distinct in
     rw c.in_ok-index.ensures (IsTable-one ks entries index.whole index.sorted (distinct.0 refl))
 
-pub returns-in-Some-clause-merged : goal.returns-in-Some-clause-merged
-returns-in-Some-clause-merged g c =
+pub returns-clause-merged : goal.returns-clause-merged
+returns-clause-merged g c =
     let distinct = rw (c.in-Some.is, c.as_slice.ensures.value) at c.in_ok-entries.ensures.distinct in
     sym (put_each-zip c.args.keys.items c.args.values.items c.requires (distinct.0 refl))
