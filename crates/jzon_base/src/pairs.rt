@@ -56,10 +56,8 @@ impl<V> Pairs<V> {
     pub fn new(alloc: Global) -> Pairs<V>
         ensures { result ≡ [] }
     {
-        Pairs {
-            alloc,
-            entries: None,
-        }
+        let entries = None;
+        Pairs { alloc, entries }
     }
 
     /// `Pairs` of keys and as many values, which are put in a box. The error is a failed allocation.

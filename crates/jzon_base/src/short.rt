@@ -35,9 +35,8 @@ impl Short {
         requires { length slice.now ≤ MAX_LEN }
         ensures { result ≡ slice.now }
     {
-        Short {
-            text: inline::text_in(slice),
-        }
+        let text = inline::text_in(slice);
+        Short { text }
     }
 
     /// A copy of the string, with which `wide` begins. If `wide` has 30 bytes or more, 30 of them
@@ -49,9 +48,8 @@ impl Short {
         requires wide { take (length slice.now) wide.now ≡ slice.now }
         ensures { result ≡ slice.now }
     {
-        Short {
-            text: inline::front_of(slice, wide),
-        }
+        let text = inline::front_of(slice, wide);
+        Short { text }
     }
 
     /// A copy, with its unused bytes. Unlike `from_slice`, it calls no function that copies bytes.

@@ -36,10 +36,9 @@ impl<'a, V> Iter<'a, V> {
     pub fn empty() -> Iter<'a, V>
         ensures { result ≡ [] }
     {
-        Iter {
-            keys: keys::Iter::empty(),
-            values: [].iter(),
-        }
+        let keys = keys::Iter::empty();
+        let values = [].iter();
+        Iter { keys, values }
     }
 }
 
@@ -87,10 +86,9 @@ impl<V> Pairs<V> {
     {
         if let Some(entries) = &self.entries {
             let entries = entries.as_ref();
-            return Iter {
-                keys: entries.keys.iter(),
-                values: entries.values.iter(),
-            };
+            let keys = entries.keys.iter();
+            let values = entries.values.iter();
+            return Iter { keys, values };
         }
         Iter::empty()
     }

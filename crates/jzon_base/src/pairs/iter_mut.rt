@@ -28,10 +28,9 @@ impl<'a, V> IterMut<'a, V> {
     pub fn empty() -> IterMut<'a, V>
         ensures rest { iter_mut_rest result ≡ [] }
     {
-        IterMut {
-            keys: keys::Iter::empty(),
-            values: [].iter_mut(),
-        }
+        let keys = keys::Iter::empty();
+        let values = [].iter_mut();
+        IterMut { keys, values }
     }
 }
 
@@ -86,10 +85,9 @@ impl<V> Pairs<V> {
     {
         if let Some(entries) = &mut self.entries {
             let entries = entries.as_mut();
-            return IterMut {
-                keys: entries.keys.iter(),
-                values: entries.values.iter_mut(),
-            };
+            let keys = entries.keys.iter();
+            let values = entries.values.iter_mut();
+            return IterMut { keys, values };
         }
         IterMut::empty()
     }

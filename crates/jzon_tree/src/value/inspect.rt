@@ -90,10 +90,8 @@ pub(crate) fn inspect(value: &JsonValue) -> Inspection
         }
         JsonValue::Number(number) => {
             see_number(number);
-            Inspection {
-                has_nan: number.is_nan(),
-                nest: 0,
-            }
+            let has_nan = number.is_nan();
+            Inspection { has_nan, nest: 0 }
         }
         JsonValue::Object(object) => inspect_object(object),
         JsonValue::Array(items) => inspect_items(items),
