@@ -21,7 +21,6 @@ ghost use Rattle.jzon_tree.specs.Entries.{entries_of};
 ghost use Rattle.jzon_tree.specs.View.{view_object};
 
 mod by_index;
-mod from_iter;
 mod print;
 
 use crate::into_json::IntoJson;
@@ -326,6 +325,21 @@ fn drop_values(mut values: Vec<JsonValue>) {
     values.destroy_empty();
 }
 
+/// The object that `Object::from_pairs` makes of these entries: a repeated key keeps its first
+/// position and takes the last value. The error is a failed allocation.
+impl<K: AsStr + Drop, V: IntoJson> FromIterator<(K, V)> for Object {
+    type Alloc = Global;
+
+    ghost from_iter_gives = { λ ps o. PutMeans K.text V.means ps (view_object o) };
+
+    fn from_iter<U: IntoIterator<Item = (K, V)>>(
+        alloc: Global,
+        pairs: U,
+    ) -> std::result::Result<Object, AllocError> {
+        Object::from_pairs(alloc, pairs.into_iter()).map_err(|_| AllocError)
+    }
+}
+
 /// Iterates as `iter` does.
 impl<'a> IntoIterator for &'a Object {
     type Item = (&'a str, &'a JsonValue);
@@ -407,9 +421,8 @@ impl IntoIterator for Object {
     fn into_iter(self) -> IntoIter {
         let Object { pairs } = self;
         let (keys, values) = pairs.into_parts();
-        IntoIter {
-            keys: keys.into_vec().into_iter(),
-            values: values.into_iter(),
-        }
+        let keys = keys.into_vec().into_iter();
+        let values = values.into_iter();
+        IntoIter { keys, values }
     }
 }

@@ -6,7 +6,7 @@ use Rattle.jzon_tree.proofs.object.ObjectIntoIterator.into_iter.Goals as goal
 pub returns : goal.returns
 returns c = record {
   into_iter_gives =
-      (λ i. zip ((c.into_iter.ensures.rest ∙ c.into_vec.ensures.keys ∙ c.into_parts-keys.ensures.keys) i)
-      ((c.into_iter-2.ensures.rest ∙ c.into_parts-keys.ensures.values) i))
+      (λ i. zip ((c.into_iter-keys.ensures.rest ∙ c.into_vec.ensures.keys ∙ c.into_parts-keys.ensures.keys) i)
+      ((c.into_iter-values.ensures.rest ∙ c.into_parts-keys.ensures.values) i))
       ∙ zip-parts (entries_of c.args.self);
 }
