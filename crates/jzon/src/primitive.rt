@@ -107,8 +107,8 @@ fn put_literal<T: Target>(source: &str, start: usize, first: u8, target: &mut T)
     ensures outcome { Puts (T.takes target.old) target.old target.new result source.now start before
         (λ r fs. value_mark r fs ≡ None) }
 {
-    let prefix = last_four_at(start, first);
     let (value, letters) = literal(first);
+    let prefix = start + usize::from(first == b'f');
     if has_four(source, prefix, letters) {
         target.put(value);
         return Ok(prefix + 4);
@@ -116,16 +116,6 @@ fn put_literal<T: Target>(source: &str, start: usize, first: u8, target: &mut T)
     let end = read_letters(source, prefix, &letters)?;
     target.put(value);
     Ok(end)
-}
-
-/// The offset of the last four letters of the literal with this first letter at `start`.
-#[inline(always)]
-fn last_four_at(start: usize, first: u8) -> usize
-    requires { start < 2 ^ 63 }
-    ensures short { first ≢ letter_f → result ≡ start }
-    ensures long { first ≡ letter_f → result ≡ start + 1 }
-{
-    start + usize::from(first == b'f')
 }
 
 /// The value of the literal with this first letter, and its last four letters.

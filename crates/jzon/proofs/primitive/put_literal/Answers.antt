@@ -1,4 +1,4 @@
-use Rattle.jzon_base.proofs.Common.{◌≡◌, ◌+◌, ◌∙◌, [], ◌∷◌, None, refl, sym, IsTrue}
+use Rattle.jzon_base.proofs.Common.{rules, ◌≢◌, ◌≡◌, ◌+◌, ◌∙◌, [], ◌∷◌, None, refl, sym, IsTrue}
 use Rattle.jzon_tree.specs.View.{view}
 use Rattle.jzon.specs.Reading.{Reading, usual}
 use Rattle.jzon.specs.Private.Machine.{Frames, no_frames, before, value_mark}
@@ -18,27 +18,34 @@ spells g c = record {
   no = λ e. (c.literal-value.ensures.no e).1;
 }
 
+-- they begin after the first letter of `false` alone
+short : (g : Over) (c : After-has_four g) → c.args.first ≢ 102 → c.args.start + c.from.result ≡ c.args.start
+short g c other = search rules
+
+long : (g : Over) (c : After-has_four g) → c.args.first ≡ 102 → c.args.start + c.from.result ≡ c.args.start + 1
+long g c here = search rules
+
 -- they are expected
 begins : (g : Over) (c : After-has_four g) (r : Reading) (fs : Frames) → value_mark r fs ≡ None
-    → Begins r c.args.source.now c.args.start c.last_four_at-prefix.result fs (view c.literal-value.result.0)
+    → Begins r c.args.source.now c.args.start (c.args.start + c.from.result) fs (view c.literal-value.result.0)
     c.literal-value.result.1
 begins g c r fs m =
-    word_begins r c.args.source.now c.args.start c.args.first c.last_four_at-prefix.result fs _
+    word_begins r c.args.source.now c.args.start c.args.first (c.args.start + c.from.result) fs _
     c.literal-value.result.1 c.utf8.source c.requires.within (sym c.requires.first) m c.requires.word
     (record {
       null = λ e. (c.literal-value.ensures.null e).0;
       yes = λ e. (c.literal-value.ensures.yes e).0;
       no = λ e. (c.literal-value.ensures.no e).0;
     })
-    (spells g c) c.last_four_at-prefix.ensures.short c.last_four_at-prefix.ensures.long
+    (spells g c) (short g c) (long g c)
 
 -- if they are there, the literal ends after them
 ends : (g : Over) (c : After-has_four g) (r : Reading) (fs : Frames) → value_mark r fs ≡ None → IsTrue c.has_four.result
-    → WordEnds r c.args.source.now c.args.start (c.last_four_at-prefix.result + 4) fs
+    → WordEnds r c.args.source.now c.args.start (c.args.start + c.from.result + 4) fs
     (view c.literal-value.result.0)
 ends g c r fs m all =
     let four = c.has_four.ensures in
-    word_ends r c.args.source.now c.args.start c.args.first c.last_four_at-prefix.result fs _ c.literal-value.result.1
+    word_ends r c.args.source.now c.args.start c.args.first (c.args.start + c.from.result) fs _ c.literal-value.result.1
     c.utf8.source (begins g c r fs m) c.requires.word (spells g c)
     (record {
       within = four.within all;
