@@ -12,7 +12,6 @@
 
 ghost use Rattle.std.specs.Prelude.{◌≡◌, ◌≢◌, ◌<◌, ◌≤◌, ◌+◌, length, chars, drop, false, slice_index, Err, IfOk, None, Some, if◌then◌else◌, MatchOption};
 ghost use Rattle.std.specs.Str.{IsCharBoundary, IsUtf8};
-ghost use Rattle.jzon_tree.specs.Value.{Value};
 ghost use Rattle.jzon_tree.specs.View.{view};
 ghost use Rattle.jzon_tree.specs.Writing.{is_whitespace};
 ghost use Rattle.jzon.specs.Private.Brackets.{opener, closer, empty_container, innermost_kind, after_opener, after_comma, after_closer};
@@ -168,46 +167,27 @@ impl<'a> Cursor<'a> {
         Ok(false)
     }
 
-    /// Moves past the comma or the closing bracket after an element or an entry. Returns whether the
-    /// container ends.
+    /// Moves past the comma or the closing bracket after an element or an entry that ends at `end`, at
+    /// the cursor or after it. Returns whether the container ends. Most texts have no whitespace there,
+    /// so it is skipped only if neither a comma nor a closing bracket is at `end`.
     #[inline(always)]
-    pub(crate) fn container_ends(&mut self, kind: ContainerKind) -> Result<bool>
-        ensures { (fs : Frames) (v : Value) → innermost_kind fs ≡ Some kind →
-            GoesOn self.old (after_value fs v) result self.new
-            (λ ends. if ends then after_closer fs v else after_comma fs v) }
-    {
-        let next = self.peek();
-        if next == kind.closer() {
-            self.bump();
-            return Ok(true);
-        }
-        if next == b',' {
-            self.bump();
-            return Ok(false);
-        }
-        Err(self.fault())
-    }
-
-    /// Does what `container_ends` does, after an element or an entry that ends at `end`. Most texts
-    /// have no whitespace there, so it is skipped only if neither a comma nor a closing bracket is
-    /// there.
-    #[inline(always)]
-    pub(crate) fn container_ends_at(&mut self, end: usize, kind: ContainerKind) -> Result<bool>
+    pub(crate) fn container_ends(&mut self, end: usize, kind: ContainerKind) -> Result<bool>
         requires boundary { IsCharBoundary self.old.source.now end }
-        requires further { self.old.index < end }
+        requires within { self.old.index ≤ end }
         ensures { EndsItem self.old end kind result self.new }
     {
-        let next = byte_at(self.source, end);
-        if next == b',' {
-            self.go_to(end + 1);
-            return Ok(false);
+        let mut at = end;
+        let mut next = byte_at(self.source, at);
+        if next != b',' && next != kind.closer() {
+            at = skip_whitespace(self.source, self.reading, at);
+            next = byte_at(self.source, at);
+            if next != b',' && next != kind.closer() {
+                return Err(fault_at(self.source, at));
+            }
         }
-        if next == kind.closer() {
-            self.go_to(end + 1);
-            return Ok(true);
-        }
-        self.go_to(end);
-        self.container_ends(kind)
+        let ends = next == kind.closer();
+        self.go_to(at + 1);
+        Ok(ends)
     }
 
     /// Moves past the colon after the key that ends at `end`. Whitespace before the colon is skipped

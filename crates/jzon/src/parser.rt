@@ -244,7 +244,8 @@ impl<'a> Parser<'a> {
                 return Ok(Next::Opened(opened));
             }
             self.stacks.push_empty(opened)?;
-            if self.cursor.container_ends(container)? {
+            let here = self.cursor.index;
+            if self.cursor.container_ends(here, container)? {
                 return Ok(Next::End);
             }
             return Ok(Next::Item);
@@ -254,7 +255,7 @@ impl<'a> Parser<'a> {
         let end = self
             .stacks
             .push_primitive(source, start, first, &mut self.buffer)?;
-        if self.cursor.container_ends_at(end, container)? {
+        if self.cursor.container_ends(end, container)? {
             return Ok(Next::End);
         }
         Ok(Next::Item)
@@ -274,12 +275,12 @@ impl<'a> Parser<'a> {
             (whole self.old.stacks.innermost)) result self.new.cursor (after_end self.new.stacks) }
     {
         loop {
-            match self.stacks.close()? {
-                Some(value) => return Ok(Some(value)),
-                None => {}
+            if let Some(value) = self.stacks.close()? {
+                return Ok(Some(value));
             }
             let container = self.stacks.innermost_kind();
-            if !self.cursor.container_ends(container)? {
+            let here = self.cursor.index;
+            if !self.cursor.container_ends(here, container)? {
                 return Ok(None);
             }
         }

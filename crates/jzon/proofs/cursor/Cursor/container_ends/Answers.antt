@@ -1,24 +1,102 @@
-use Rattle.jzon_base.proofs.Common.{◌∙◌, sym}
-use Rattle.jzon.proofs.Containers.ContainerTokens.{closes, comma_goes, item_stops}
-use Rattle.jzon.proofs.Texts.Cursors.{read_to_here}
+use Rattle.jzon_base.proofs.Common.{◌≡◌, ◌∙◌, ◌⊎◌, inl, inr, ◌≤◌, ◌+◌, ℕ, get_or, refl, sym, arith, true, false, nat_eq, nat_tests, eqb-true, Bool, if◌then◌else◌, Ok, ◌<◌}
+use Rattle.jzon_base.proofs.Common.{IsCharBoundary, IsCharBoundary-after_ascii}
+use Rattle.jzon.specs.declared.cursor.Cursor.{Cursor}
+use Rattle.jzon.specs.declared.cursor.ContainerKind.{ContainerKind}
+use Rattle.jzon.specs.Private.Brackets.{closer, after_closer, after_comma}
+use Rattle.jzon.specs.Private.Cursor.{left, IsPast, IsAfter, EndsItem}
+use Rattle.jzon.specs.Private.Machine.{State, after_value, allows_whitespace, from}
+use Rattle.jzon.proofs.Containers.ContainerTokens.{closes, comma_goes, closer_bounds, item_stops}
+use Rattle.jzon.proofs.Containers.FrameViews.{byte_within}
+use Rattle.jzon.proofs.Texts.Cursors.{utf8_of, ReadTo}
 use Rattle.jzon.proofs.Texts.ReportedErrors.{reported}
+use Rattle.jzon.proofs.cursor.Cursor.container_ends.Goals.{After-closer-2, then-next-ne44+then-next-closer+else-next-ne44-2, else-next-ne44-2-via-then-next-ne44-2+else-next-closer-2, else-next-ne44-2-via-else-next-ne44-2, else-next-ne44, else-next-ne44-via-then-next-ne44+else-next-closer, else-next-ne44-via-else-next-ne44}
 use Rattle.jzon.proofs.cursor.Cursor.container_ends.Goals as goal
 
-pub returns-then-next-closer : goal.returns-then-next-closer
-returns-then-next-closer c fs v here =
-    let t = c.args.self.now in
-    closes c.args.kind t c.bump.new.self _ t.index fs v here (read_to_here t _) c.bump.ensures
-    (sym c.peek-next.ensures ∙ c.if-next-closer.true ∙ c.closer.ensures)
+-- a comma or the closing bracket is at this offset, after whitespace alone
+record Found (t : Cursor) (end : ℕ) (kind : ContainerKind) (at next : ℕ) : Type 0 where
+  pub boundary : IsCharBoundary t.source.now at
+  pub within : end ≤ at
+  pub same : (p : State) → allows_whitespace p ≡ true → from t.reading t.source.now p end ≡ from t.reading t.source.now p at
+  pub here : get_or t.source.now at 0 ≡ next
+  pub token : (next ≡ 44) ⊎ (next ≡ closer kind)
 
-pub returns-then-next-eq44 : goal.returns-then-next-eq44
-returns-then-next-eq44 c fs v here =
+found : (c : After-closer-2) → Found c.args.self.now c.args.end c.args.kind c.if-next-ne44.at c.if-next-ne44.next
+found c = elim c.if-next-ne44.branch [
+  | then-next-ne44+then-next-closer+else-next-ne44-2 w ↦ rw (w.at-is, w.next-is) (record {
+    boundary = w.skip_whitespace-at.ensures.boundary;
+    within = w.skip_whitespace-at.ensures.within;
+    same = w.skip_whitespace-at.ensures.outcome;
+    here = sym w.byte_at-next-then-next-closer.ensures;
+    token = elim w.else-next-ne44-2.branch [
+      | else-next-ne44-2-via-then-next-ne44-2+else-next-closer-2 x ↦
+          inr (x.if-next-closer-2.false ∙ x.closer-then-next-ne44-2.ensures)
+      | else-next-ne44-2-via-else-next-ne44-2 x ↦ inl x.if-next-ne44-2.false
+    ];
+  })
+  | else-next-ne44 w ↦ rw (w.at-is, w.next-is) (record {
+    boundary = c.requires.boundary;
+    within = omega arith;
+    same = λ p allows. refl;
+    here = sym c.byte_at-next.ensures;
+    token = elim w.else-next-ne44.branch [
+      | else-next-ne44-via-then-next-ne44+else-next-closer x ↦ inr (x.if-next-closer.false ∙ x.closer.ensures)
+      | else-next-ne44-via-else-next-ne44 x ↦ inl x.if-next-ne44.false
+    ];
+  })
+]
+
+pub returns-then-next-closer-2 : goal.returns-then-next-closer-2
+returns-then-next-closer-2 c p fs v here before =
     let t = c.args.self.now in
-    comma_goes c.args.kind t c.bump-then-next-eq44.new.self _ t.index fs v here (read_to_here t _)
-    c.bump-then-next-eq44.ensures (sym c.peek-next.ensures ∙ c.if-next-eq44.true)
+    let u : Cursor = record {
+      source = t.source;
+      index = c.skip_whitespace-at.result;
+      reading = t.reading;
+      utf8 = t.utf8;
+      boundary = c.skip_whitespace-at.ensures.boundary;
+      past_whitespace = c.skip_whitespace-at.ensures.stop;
+    } in
+    reported t.source.now c.fault_at.result _ _
+    (before ∙ c.skip_whitespace-at.ensures.outcome (after_value fs v) refl
+    ∙ item_stops c.args.kind u fs v here (λ e. c.if-next-ne44-2.true (c.byte_at-next-then-next-closer.ensures ∙ e))
+    (λ e. c.if-next-closer-2.true (c.byte_at-next-then-next-closer.ensures ∙ e ∙ sym c.closer-then-next-ne44-2.ensures)))
+    c.fault_at.ensures
+
+past : (t : Cursor) (end : ℕ) (kind : ContainerKind) (at next : ℕ) → Found t end kind at next
+    → IsCharBoundary t.source.now (at + 1)
+past t end kind at next f = by_token f.token
+  where
+    after : (0 < next) → next < 128 → IsCharBoundary t.source.now (at + 1)
+    after some ascii = IsCharBoundary-after_ascii t.source.now at (utf8_of t) (byte_within t.source.now at next f.here some)
+        (rw f.here ascii)
+
+    by_token : (next ≡ 44) ⊎ (next ≡ closer kind) → IsCharBoundary t.source.now (at + 1)
+    by_token (inl e) = after (omega (arith, e)) (omega (arith, e))
+    by_token (inr e) = after (omega (arith, e, (closer_bounds kind).0)) (omega (arith, e, (closer_bounds kind).1))
+
+pub go_to-requires : goal.go_to-requires
+go_to-requires c = past _ _ _ _ _ (found (goal.at.go_to-requires c).After-closer-2)
+
+goes : (t u : Cursor) (end : ℕ) (kind : ContainerKind) (at next bracket : ℕ) → Found t end kind at next
+    → bracket ≡ closer kind → t.index ≤ end → IsPast t.reading t.source.now (at + 1) u
+    → EndsItem t end kind (Ok (nat_eq next bracket)) u
+goes t u end kind at next bracket f is within moved p fs v here before = by_bracket (nat_eq next bracket) refl
+  where
+    read : ReadTo t p (after_value fs v) at
+    read = record {
+      boundary = f.boundary;
+      within = omega (arith, within, f.within);
+      same = before ∙ f.same (after_value fs v) refl;
+    }
+
+    comma : nat_eq next bracket ≡ false → (next ≡ 44) ⊎ (next ≡ closer kind) → next ≡ 44
+    comma other (inl e) = e
+    comma other (inr e) = grind (arith, nat_tests)
+
+    by_bracket : (b : Bool) → nat_eq next bracket ≡ b
+        → IsAfter t u × (left t p ≡ left u (if b then after_closer fs v else after_comma fs v))
+    by_bracket true e = closes kind t u p at fs v here read moved (f.here ∙ eqb-true next bracket e ∙ is)
+    by_bracket false e = comma_goes kind t u p at fs v here read moved (f.here ∙ comma e f.token)
 
 pub returns : goal.returns
-returns c fs v here =
-    reported c.args.self.now.source.now c.fault.result _ _
-    (item_stops c.args.kind c.args.self.now fs v here (λ e. c.if-next-eq44.false (c.peek-next.ensures ∙ e))
-    (λ e. c.if-next-closer.false (c.peek-next.ensures ∙ e ∙ sym c.closer.ensures)))
-    c.fault.ensures
+returns c = goes _ _ _ _ _ _ _ (found (goal.at.returns c).After-closer-2) c.closer-2.ensures c.requires.within c.go_to.ensures

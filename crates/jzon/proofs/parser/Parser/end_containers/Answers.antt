@@ -1,4 +1,4 @@
-use Rattle.jzon_base.proofs.Common.{◌∙◌, ap, arith, length}
+use Rattle.jzon_base.proofs.Common.{◌∙◌, refl, ap, arith, length}
 use Rattle.jzon_tree.specs.View.{view}
 use Rattle.jzon.specs.Private.Cursor.{left}
 use Rattle.jzon.specs.Private.Machine.{after_value}
@@ -10,7 +10,7 @@ use Rattle.jzon.proofs.parser.Parser.end_containers.Goals.{After-container_ends}
 use Rattle.jzon.proofs.parser.Parser.end_containers.Goals as goal
 
 closed : (c : After-container_ends) → IsClosed c.loop-value.self.stacks c.close.new.self
-closed c = c.in_ok-value.ensures.inner c.in-None.is
+closed c = c.in_ok-value.ensures.inner c.in_default.is
 
 came : (c : After-container_ends) → Reached c.args.self.now.cursor
     (after_value (frames_around c.args.self.now.stacks) (whole c.args.self.now.stacks.innermost))
@@ -27,15 +27,15 @@ returns-in_err-container_ends-clause-outcome c s o h =
     let at = (goal.at.returns-in_err-container_ends-clause-outcome c).After-container_ends in
     fails_on _ c.from_residual-in_err-container_ends.result _ c.from_residual-in_err-container_ends.ensures.1
     (reached (goes_to o h (came at)))
-    (c.in_err-container_ends.ensures (frames_here (outer_of (closed at))) (view (closed at).value)
-    (outer_kind (closed at) _ c.innermost_kind-container.ensures))
+    (c.in_err-container_ends.ensures _ (frames_here (outer_of (closed at))) (view (closed at).value)
+    (outer_kind (closed at) _ c.innermost_kind-container.ensures) refl)
 
 -- the bracket or the comma after the container was read
 pub returns-then-not-branch-clause-after : goal.returns-then-not-branch-clause-after
 returns-then-not-branch-clause-after c =
     let at = (goal.at.returns-then-not-branch-clause-after c).After-container_ends in
-    let ends = c.in_ok-container_ends.ensures (frames_here (outer_of (closed at))) (view (closed at).value)
-    (outer_kind (closed at) _ c.innermost_kind-container.ensures) in
+    let ends = c.in_ok-container_ends.ensures _ (frames_here (outer_of (closed at))) (view (closed at).value)
+    (outer_kind (closed at) _ c.innermost_kind-container.ensures) refl in
     added_before _ (outer_of (closed at)) _ (closed at).value (closed at).added.awaits (closed at).added.closed
     (omega (
       arith,
@@ -50,21 +50,21 @@ returns-then-not-branch-clause-outcome c s o h =
     goes_to_item s _ o (outer_of (closed at)) _ (closed at).value _ (closed at).added.awaits (closed at).added.closed
     c.if-not-branch.true
     (goes_after _ (reached (goes_to o h (came at)))
-    (c.in_ok-container_ends.ensures (frames_here (outer_of (closed at))) (view (closed at).value)
-    (outer_kind (closed at) _ c.innermost_kind-container.ensures)))
+    (c.in_ok-container_ends.ensures _ (frames_here (outer_of (closed at))) (view (closed at).value)
+    (outer_kind (closed at) _ c.innermost_kind-container.ensures) refl))
 
 pub loop-value-smaller : goal.loop-value-smaller
 loop-value-smaller c =
     let at = (goal.at.loop-value-smaller c).After-container_ends in
-    let ends = c.in_ok-container_ends.ensures (frames_here (outer_of (closed at))) (view (closed at).value)
-    (outer_kind (closed at) _ c.innermost_kind-container.ensures) in
+    let ends = c.in_ok-container_ends.ensures _ (frames_here (outer_of (closed at))) (view (closed at).value)
+    (outer_kind (closed at) _ c.innermost_kind-container.ensures) refl in
     omega (arith, ends.0.index, ap length ends.0.text, c.container_ends.new.self.boundary.0)
 
 pub loop-value-preserved : goal.loop-value-preserved
 loop-value-preserved c =
     let at = (goal.at.loop-value-preserved c).After-container_ends in
-    let ends = c.in_ok-container_ends.ensures (frames_here (outer_of (closed at))) (view (closed at).value)
-    (outer_kind (closed at) _ c.innermost_kind-container.ensures) in
+    let ends = c.in_ok-container_ends.ensures _ (frames_here (outer_of (closed at))) (view (closed at).value)
+    (outer_kind (closed at) _ c.innermost_kind-container.ensures) refl in
     record {
       strict = ap (λ z. z.strict) (closed at).added.closed ∙ c.loop-value.invariant.strict;
       even = added_even (outer_of (closed at)) _ (closed at).value (closed at).added.awaits (closed at).added.closed;

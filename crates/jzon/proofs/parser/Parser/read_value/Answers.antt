@@ -1,4 +1,4 @@
-use Rattle.jzon_base.proofs.Common.{◌≡◌, ◌≢◌, ◌∙◌, ◌<◌, ap, sym, arith, cond, true, length}
+use Rattle.jzon_base.proofs.Common.{◌≡◌, ◌≢◌, ◌∙◌, ◌<◌, refl, ap, sym, arith, cond, true, length}
 use Rattle.jzon_base.specs.Tokens.{end_array}
 use Rattle.jzon_tree.specs.View.{view}
 use Rattle.jzon.specs.Private.Brackets.{empty_container, after_opener}
@@ -56,8 +56,8 @@ returns-in_err-container_ends-clause-outcome c =
     let s = c.args.self.now.stacks in
     let at = (goal.at.returns-in_err-container_ends-clause-outcome c).After-container_ends in
     fails_on _ c.from_residual-in_err-container_ends.result _ c.from_residual-in_err-container_ends.ensures.1 (came at)
-    (c.in_err-container_ends.ensures (frames_here s) (view c.in_ok-push_empty.ensures.ok.0)
-    (kind_here s c.args.container c.requires.kind))
+    (c.in_err-container_ends.ensures _ (frames_here s) (view c.in_ok-push_empty.ensures.ok.0)
+    (kind_here s c.args.container c.requires.kind) refl)
 
 pub returns-then-branch-clause-outcome : goal.returns-then-branch-clause-outcome
 returns-then-branch-clause-outcome c =
@@ -66,8 +66,8 @@ returns-then-branch-clause-outcome c =
     let at = (goal.at.returns-then-branch-clause-outcome c).After-container_ends in
     ended_here c.args.self.now.cursor _ (before (frames_here s)) s _ ok.0 _
     (awaits_here s c.args.container c.requires.kind c.requires.awaits) ok.2 c.if-branch.true
-    (goes_after _ (came at) (c.in_ok-container_ends.ensures (frames_here s) (view ok.0)
-    (kind_here s c.args.container c.requires.kind)))
+    (goes_after _ (came at) (c.in_ok-container_ends.ensures _ (frames_here s) (view ok.0)
+    (kind_here s c.args.container c.requires.kind) refl))
 
 pub returns-then-branch-clause-kept : goal.returns-then-branch-clause-kept
 returns-then-branch-clause-kept c =
@@ -84,8 +84,8 @@ returns-in-Some-clause-after c =
     let s = c.args.self.now.stacks in
     let ok = c.in_ok-push_empty.ensures.ok in
     let at = (goal.at.returns-in-Some-clause-after c).After-container_ends in
-    let ends = goes_after _ (came at) (c.in_ok-container_ends.ensures (frames_here s) (view ok.0)
-    (kind_here s c.args.container c.requires.kind)) in
+    let ends = goes_after _ (came at) (c.in_ok-container_ends.ensures _ (frames_here s) (view ok.0)
+    (kind_here s c.args.container c.requires.kind) refl) in
     added_before _ s _ ok.0 (awaits_here s c.args.container c.requires.kind c.requires.awaits) ok.2
     (omega (arith, c.requires.room, ap (λ r. r.depth) ends.0.reading))
 
@@ -96,8 +96,8 @@ returns-in-Some-clause-outcome c =
     let at = (goal.at.returns-in-Some-clause-outcome c).After-container_ends in
     goes_to_item c.args.self.now.cursor _ (before (frames_here s)) s _ ok.0 _
     (awaits_here s c.args.container c.requires.kind c.requires.awaits) ok.2 c.if-branch.false
-    (goes_after _ (came at) (c.in_ok-container_ends.ensures (frames_here s) (view ok.0)
-    (kind_here s c.args.container c.requires.kind)))
+    (goes_after _ (came at) (c.in_ok-container_ends.ensures _ (frames_here s) (view ok.0)
+    (kind_here s c.args.container c.requires.kind) refl))
 
 -- ---- a primitive
 
@@ -113,14 +113,14 @@ returns-in_err-end-clause-outcome c =
     fails_on _ c.from_residual-in_err-end.result _ c.from_residual-in_err-end.ensures.1 reached_start
     (c.in_err-end.ensures.outcome.1 t.reading (frames_here s) (begins t s c.requires.room c.requires.some))
 
-pub returns-in_err-container_ends_at-clause-outcome : goal.returns-in_err-container_ends_at-clause-outcome
-returns-in_err-container_ends_at-clause-outcome c =
+pub returns-in_err-container_ends-2-clause-outcome : goal.returns-in_err-container_ends-2-clause-outcome
+returns-in_err-container_ends-2-clause-outcome c =
     let t = c.args.self.now.cursor in
     let s = c.args.self.now.stacks in
     let read = c.in_ok-end.ensures.outcome in
-    fails_on _ c.from_residual-in_err-container_ends_at.result _ c.from_residual-in_err-container_ends_at.ensures.1
+    fails_on _ c.from_residual-in_err-container_ends-2.result _ c.from_residual-in_err-container_ends-2.ensures.1
     reached_start
-    (c.in_err-container_ends_at.ensures (before (frames_here s)) (frames_here s) (view read.0)
+    (c.in_err-container_ends-2.ensures (before (frames_here s)) (frames_here s) (view read.0)
     (kind_here s c.args.container c.requires.kind) (read.2 t.reading (frames_here s) (begins t s c.requires.room c.requires.some)))
 
 pub returns-then-branch-2-clause-outcome : goal.returns-then-branch-2-clause-outcome
@@ -130,7 +130,7 @@ returns-then-branch-2-clause-outcome c =
     let read = c.in_ok-end.ensures.outcome in
     ended_here t _ (before (frames_here s)) s _ read.0 _
     (awaits_here s c.args.container c.requires.kind c.requires.awaits) read.1 c.if-branch-2.true
-    (c.in_ok-container_ends_at.ensures (before (frames_here s)) (frames_here s) (view read.0)
+    (c.in_ok-container_ends-2.ensures (before (frames_here s)) (frames_here s) (view read.0)
     (kind_here s c.args.container c.requires.kind) (read.2 t.reading (frames_here s) (begins t s c.requires.room c.requires.some)))
 
 pub returns-clause-kept : goal.returns-clause-kept
@@ -143,7 +143,7 @@ returns-clause-after c =
     let t = c.args.self.now.cursor in
     let s = c.args.self.now.stacks in
     let read = c.in_ok-end.ensures.outcome in
-    let ends = c.in_ok-container_ends_at.ensures (before (frames_here s)) (frames_here s) (view read.0)
+    let ends = c.in_ok-container_ends-2.ensures (before (frames_here s)) (frames_here s) (view read.0)
     (kind_here s c.args.container c.requires.kind) (read.2 t.reading (frames_here s) (begins t s c.requires.room c.requires.some)) in
     added_before _ s _ read.0 (awaits_here s c.args.container c.requires.kind c.requires.awaits) read.1
     (omega (arith, c.requires.room, ap (λ r. r.depth) ends.0.reading))
@@ -155,5 +155,5 @@ returns-clause-outcome c =
     let read = c.in_ok-end.ensures.outcome in
     goes_to_item t _ (before (frames_here s)) s _ read.0 _
     (awaits_here s c.args.container c.requires.kind c.requires.awaits) read.1 c.if-branch-2.false
-    (c.in_ok-container_ends_at.ensures (before (frames_here s)) (frames_here s) (view read.0)
+    (c.in_ok-container_ends-2.ensures (before (frames_here s)) (frames_here s) (view read.0)
     (kind_here s c.args.container c.requires.kind) (read.2 t.reading (frames_here s) (begins t s c.requires.room c.requires.some)))
