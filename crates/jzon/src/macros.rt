@@ -15,13 +15,12 @@ use std::alloc::Global;
 
 /// Appends an element to the array and returns the array. Fails as `push` does.
 #[doc(hidden)]
-pub fn with_item<T: IntoJson>(alloc: Global, array: JsonValue, item: T) -> Result<JsonValue>
+pub fn with_item<T: IntoJson>(alloc: Global, mut array: JsonValue, item: T) -> Result<JsonValue>
     ensures ok { IfOk result
         (λ after. (v : Value) × T.means item v × (view after ≡ with_item v (view array))) }
     ensures array { OnOk result (is_array (view array) ≡ true) }
     ensures refusal { IfErr result (IsRefusal (is_array (view array)) (codes "Array")) }
 {
-    let mut array = array;
     array.push(alloc, item)?;
     Ok(array)
 }
@@ -30,7 +29,7 @@ pub fn with_item<T: IntoJson>(alloc: Global, array: JsonValue, item: T) -> Resul
 #[doc(hidden)]
 pub fn with_entry<T: IntoJson>(
     alloc: Global,
-    object: JsonValue,
+    mut object: JsonValue,
     key: &str,
     value: T,
 ) -> Result<JsonValue>
@@ -40,7 +39,6 @@ pub fn with_entry<T: IntoJson>(
     ensures object { OnOk result (is_object (view object) ≡ true) }
     ensures refusal { IfErr result (IsRefusal (is_object (view object)) (codes "Object")) }
 {
-    let mut object = object;
     object.insert(alloc, key, value)?;
     Ok(object)
 }

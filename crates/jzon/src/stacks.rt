@@ -223,11 +223,8 @@ impl Stacks {
         strict: bool,
         kind: ContainerKind,
     ) -> Result<Stacks, AllocError>
-        ensures ok { IfOk result (λ stacks. stacks ≡ record {
-          strict = strict;
-          innermost = new_container kind;
-          around = [];
-        }) }
+        ensures ok { IfOk result (λ stacks. stacks
+            ≡ record { strict = strict; innermost = new_container kind; around = [] }) }
     {
         let key_room = match kind {
             ContainerKind::Array => 0,
