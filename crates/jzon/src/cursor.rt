@@ -185,9 +185,8 @@ impl<'a> Cursor<'a> {
                 return Err(fault_at(self.source, at));
             }
         }
-        let ends = next == kind.closer();
         self.go_to(at + 1);
-        Ok(ends)
+        Ok(next != b',')
     }
 
     /// Moves past the colon after the key that ends at `end`. Whitespace before the colon is skipped

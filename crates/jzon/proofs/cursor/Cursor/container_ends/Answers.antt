@@ -1,4 +1,4 @@
-use Rattle.jzon_base.proofs.Common.{◌≡◌, ◌∙◌, ◌⊎◌, inl, inr, ◌≤◌, ◌+◌, ℕ, get_or, refl, sym, arith, true, false, nat_eq, nat_tests, eqb-true, Bool, if◌then◌else◌, Ok, ◌<◌}
+use Rattle.jzon_base.proofs.Common.{◌≡◌, ◌∙◌, ◌⊎◌, inl, inr, ◌≤◌, ◌+◌, ℕ, get_or, refl, sym, arith, true, false, not, nat_eq, nat_tests, eqb-true, Bool, if◌then◌else◌, Ok, ◌<◌}
 use Rattle.jzon_base.proofs.Common.{IsCharBoundary, IsCharBoundary-after_ascii}
 use Rattle.jzon.specs.declared.cursor.Cursor.{Cursor}
 use Rattle.jzon.specs.declared.cursor.ContainerKind.{ContainerKind}
@@ -9,7 +9,7 @@ use Rattle.jzon.proofs.Containers.ContainerTokens.{closes, comma_goes, closer_bo
 use Rattle.jzon.proofs.Containers.FrameViews.{byte_within}
 use Rattle.jzon.proofs.Texts.Cursors.{utf8_of, ReadTo}
 use Rattle.jzon.proofs.Texts.ReportedErrors.{reported}
-use Rattle.jzon.proofs.cursor.Cursor.container_ends.Goals.{After-closer-2, then-next-ne44+then-next-closer+else-next-ne44-2, else-next-ne44-2-via-then-next-ne44-2+else-next-closer-2, else-next-ne44-2-via-else-next-ne44-2, else-next-ne44, else-next-ne44-via-then-next-ne44+else-next-closer, else-next-ne44-via-else-next-ne44}
+use Rattle.jzon.proofs.cursor.Cursor.container_ends.Goals.{After-row_known-1, then-next-ne44+then-next-closer+else-next-ne44-2, else-next-ne44-2-via-then-next-ne44-2+else-next-closer-2, else-next-ne44-2-via-else-next-ne44-2, else-next-ne44, else-next-ne44-via-then-next-ne44+else-next-closer, else-next-ne44-via-else-next-ne44}
 use Rattle.jzon.proofs.cursor.Cursor.container_ends.Goals as goal
 
 -- a comma or the closing bracket is at this offset, after whitespace alone
@@ -20,7 +20,7 @@ record Found (t : Cursor) (end : ℕ) (kind : ContainerKind) (at next : ℕ) : T
   pub here : get_or t.source.now at 0 ≡ next
   pub token : (next ≡ 44) ⊎ (next ≡ closer kind)
 
-found : (c : After-closer-2) → Found c.args.self.now c.args.end c.args.kind c.if-next-ne44.at c.if-next-ne44.next
+found : (c : After-row_known-1) → Found c.args.self.now c.args.end c.args.kind c.if-next-ne44.at c.if-next-ne44.next
 found c = elim c.if-next-ne44.branch [
   | then-next-ne44+then-next-closer+else-next-ne44-2 w ↦ rw (w.at-is, w.next-is) (record {
     boundary = w.skip_whitespace-at.ensures.boundary;
@@ -75,12 +75,11 @@ past t end kind at next f = by_token f.token
     by_token (inr e) = after (omega (arith, e, (closer_bounds kind).0)) (omega (arith, e, (closer_bounds kind).1))
 
 pub go_to-requires : goal.go_to-requires
-go_to-requires c = past _ _ _ _ _ (found (goal.at.go_to-requires c).After-closer-2)
+go_to-requires c = past _ _ _ _ _ (found (goal.at.go_to-requires c).After-row_known-1)
 
-goes : (t u : Cursor) (end : ℕ) (kind : ContainerKind) (at next bracket : ℕ) → Found t end kind at next
-    → bracket ≡ closer kind → t.index ≤ end → IsPast t.reading t.source.now (at + 1) u
-    → EndsItem t end kind (Ok (nat_eq next bracket)) u
-goes t u end kind at next bracket f is within moved p fs v here before = by_bracket (nat_eq next bracket) refl
+goes : (t u : Cursor) (end : ℕ) (kind : ContainerKind) (at next : ℕ) → Found t end kind at next → t.index ≤ end
+    → IsPast t.reading t.source.now (at + 1) u → EndsItem t end kind (Ok (not (nat_eq next 44))) u
+goes t u end kind at next f within moved p fs v here before = by_comma (nat_eq next 44) refl
   where
     read : ReadTo t p (after_value fs v) at
     read = record {
@@ -89,14 +88,14 @@ goes t u end kind at next bracket f is within moved p fs v here before = by_brac
       same = before ∙ f.same (after_value fs v) refl;
     }
 
-    comma : nat_eq next bracket ≡ false → (next ≡ 44) ⊎ (next ≡ closer kind) → next ≡ 44
-    comma other (inl e) = e
-    comma other (inr e) = grind (arith, nat_tests)
+    bracket : nat_eq next 44 ≡ false → (next ≡ 44) ⊎ (next ≡ closer kind) → next ≡ closer kind
+    bracket other (inl e) = grind (arith, nat_tests)
+    bracket other (inr e) = e
 
-    by_bracket : (b : Bool) → nat_eq next bracket ≡ b
-        → IsAfter t u × (left t p ≡ left u (if b then after_closer fs v else after_comma fs v))
-    by_bracket true e = closes kind t u p at fs v here read moved (f.here ∙ eqb-true next bracket e ∙ is)
-    by_bracket false e = comma_goes kind t u p at fs v here read moved (f.here ∙ comma e f.token)
+    by_comma : (b : Bool) → nat_eq next 44 ≡ b
+        → IsAfter t u × (left t p ≡ left u (if not b then after_closer fs v else after_comma fs v))
+    by_comma true e = comma_goes kind t u p at fs v here read moved (f.here ∙ eqb-true next 44 e)
+    by_comma false e = closes kind t u p at fs v here read moved (f.here ∙ bracket e f.token)
 
 pub returns : goal.returns
-returns c = goes _ _ _ _ _ _ _ (found (goal.at.returns c).After-closer-2) c.closer-2.ensures c.requires.within c.go_to.ensures
+returns c = goes _ _ _ _ _ _ (found (goal.at.returns c).After-row_known-1) c.requires.within c.go_to.ensures
