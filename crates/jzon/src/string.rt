@@ -181,32 +181,14 @@ fn read_escapes(source: &str, start: usize, buffer: &mut String) -> Result<usize
     while has_byte(source, index, b'\\') {
         let (ch, end) = read_escape(source, index + 1)?;
         buffer.push(ch)?;
-        index = push_run(source, end, buffer)?;
+        index = end;
+        // Escapes often follow one another.
+        if !has_byte(source, end, b'\\') {
+            index = plain_end(source, end);
+            buffer.push_str(&source[end..index])?;
+        }
     }
     past_quote(source, index)
-}
-
-/// Adds the unescaped characters from `start` on to the buffer; returns the offset after them. The
-/// error is `Memory`. An escape at `start` is tested first, since escapes often follow one
-/// another.
-#[inline(always)]
-fn push_run(source: &str, start: usize, buffer: &mut String) -> Result<usize>
-    requires { IsCharBoundary source.now start }
-    ensures within { IfOk result (λ end. start ≤ end) }
-    ensures boundary { IfOk result (λ end. IsCharBoundary source.now end) }
-    ensures stop { IfOk result
-        (λ end. end < length source.now → is_plain (slice_index source.now end) ≡ false) }
-    ensures outcome { (r : Reading) (role : Role) → IfOk result (λ end.
-        from r source.now (string role (string_bytes buffer.old) between) start
-        ≡ from r source.now (string role (string_bytes buffer.new) between) end) }
-    ensures memory { IsOkUnless result Memory }
-{
-    if has_byte(source, start, b'\\') {
-        return Ok(start);
-    }
-    let end = plain_end(source, start);
-    buffer.push_str(&source[start..end])?;
-    Ok(end)
 }
 
 /// The character of the escape whose backslash is before `start`, and the offset after it.
@@ -216,25 +198,16 @@ fn read_escape(source: &str, start: usize) -> Result<(char, usize)>
     ensures outcome { ReadsCharacter source.now start (λ role bs. string role bs slash) result }
 {
     if has_byte(source, start, b'u') {
-        return read_unicode(source, start + 1);
+        let digits = start + 1;
+        let unit = read_hex(source, digits)?;
+        return match char::from_u32(unit) {
+            Some(ch) => Ok((ch, digits + 4)),
+            None => read_second(source, digits + 4, unit),
+        };
     }
     match meant_by(byte_at(source, start)) {
         Some(ch) => Ok((ch, start + 1)),
         None => Err(fault_at(source, start)),
-    }
-}
-
-/// The character of the `\u` escape whose digits are at `start`, or of a surrogate pair that begins
-/// there, and the offset after it.
-fn read_unicode(source: &str, start: usize) -> Result<(char, usize)>
-    requires { IsCharBoundary source.now start }
-    ensures end { IfOk result (λ r. (start < r.1) × IsCharBoundary source.now r.1) }
-    ensures outcome { ReadsCharacter source.now start (λ role bs. string role bs (code 3 0)) result }
-{
-    let unit = read_hex(source, start)?;
-    match char::from_u32(unit) {
-        Some(ch) => Ok((ch, start + 4)),
-        None => read_second(source, start + 4, unit),
     }
 }
 

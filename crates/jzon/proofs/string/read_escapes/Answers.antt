@@ -1,8 +1,10 @@
-use Rattle.jzon_base.proofs.Common.{◌∙◌, ap, sym, subst, arith, inr, string_bytes, err_from_is_err_and}
+use Rattle.jzon_base.proofs.Common.{rules, ◌≡◌, ◌∙◌, ◌++◌, ap, sym, subst, arith, inr, string_bytes, err_from_is_err_and}
 use Rattle.jzon_base.proofs.Common.{IsCharBoundary-after_ascii}
 use Rattle.std.proofs.lemmas.Result.{MatchResult-weaker}
-use Rattle.jzon.specs.Private.Machine.{string, between, from, Reports}
+use Rattle.jzon.specs.Private.Machine.{Role, string, between, from, Reports}
 use Rattle.jzon.proofs.Strings.Quotes.{backslash_begins}
+use Rattle.jzon.specs.Reading.{Reading}
+use Rattle.jzon.proofs.string.read_escapes.Goals.{After-has_byte-in-loop-start}
 use Rattle.jzon.proofs.string.read_escapes.Goals as goal
 
 pub read_escape-requires : goal.read_escape-requires
@@ -22,22 +24,39 @@ returns-in_err-ch-clause-outcome c r role =
     rw (reported.1, reported.2) (inr (subst (Reports text _) (sym escape)
     (c.in_err-ch.ensures.outcome r role read)))
 
-pub loop-start-preserved : goal.loop-start-preserved
-loop-start-preserved c =
-    let text = c.args.source.now in
+-- an escape was read, and its character added
+added : (c : After-has_byte-in-loop-start) (r : Reading) (role : Role)
+    → from r c.args.source.now (string role (string_bytes c.args.buffer.now) between) c.args.start
+    ≡ from r c.args.source.now (string role (string_bytes c.push.new.self) between) c.in_ok-ch.end
+added c r role =
     let here = c.has_byte.ensures.0 c.loop-start-test.true in
     let read = string_bytes c.loop-start.buffer in
+    c.loop-start.invariant.same r role
+    ∙ backslash_begins r role read c.args.source.now c.loop-start.index c.utf8.source c.loop-start.invariant.boundary
+    here.0 here.1
+    ∙ c.in_ok-ch.ensures.outcome r role read
+    ∙ ap (λ z. from r c.args.source.now (string role z between) c.in_ok-ch.end) (sym c.in_ok-push.ensures.bytes)
+
+pub loop-start-preserved : goal.loop-start-preserved
+loop-start-preserved c =
     record {
-      within = omega (arith, c.in_ok-ch.ensures.end.0, c.in_ok-index.ensures.within);
-      boundary = c.in_ok-index.ensures.boundary;
-      stop = c.in_ok-index.ensures.stop;
+      within = omega (arith, c.in_ok-ch.ensures.end.0);
+      boundary = c.in_ok-ch.ensures.end.1;
+      stop = λ within. search rules;
+      same = added (goal.at.loop-start-preserved c).After-has_byte-in-loop-start;
+    }
+
+pub loop-start-preserved-in-Continue-branch-3 : goal.loop-start-preserved-in-Continue-branch-3
+loop-start-preserved-in-Continue-branch-3 c =
+    record {
+      within = omega (arith, c.in_ok-ch.ensures.end.0, c.plain_end-index.ensures.within);
+      boundary = c.plain_end-index.ensures.boundary;
+      stop = c.plain_end-index.ensures.stop;
       same = λ r role.
-          c.loop-start.invariant.same r role
-          ∙ backslash_begins r role read text c.loop-start.index c.utf8.source c.loop-start.invariant.boundary here.0
-          here.1
-          ∙ c.in_ok-ch.ensures.outcome r role read
-          ∙ ap (λ z. from r text (string role z between) c.in_ok-ch.end) (sym c.in_ok-push.ensures.bytes)
-          ∙ c.in_ok-index.ensures.outcome r role;
+          added (goal.at.loop-start-preserved-in-Continue-branch-3 c).After-has_byte-in-loop-start r role
+          ∙ c.plain_end-index.ensures.outcome r role _
+          ∙ ap (λ z. from r c.args.source.now (string role z between) c.plain_end-index.result)
+          (sym (c.in_ok-push_str.ensures.bytes ∙ ap (λ z. string_bytes c.push.new.self ++ z) c.range.ensures.value));
     }
 
 pub returns-clause-outcome : goal.returns-clause-outcome
