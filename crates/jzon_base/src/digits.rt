@@ -59,12 +59,12 @@ pub fn read_scanned(
         (signed positive_exponent (digits_number exponent.now))) }
     ensures fault { IfErr result (IsFirstTooMany whole.now fraction.now) }
 {
-    // Most numbers: no digit is dropped, so the exponent is minus the length of the fraction.
-    if whole.len() + fraction.len() <= ALWAYS_KEPT && exponent.is_empty() {
-        let exponent = -(fraction.len() as i16);
+    // Most numbers have so few digits that none is dropped.
+    if whole.len() + fraction.len() <= ALWAYS_KEPT {
+        let exponent = clamped_exponent(0, fraction.len(), positive_exponent, exponent);
         return Ok(Number::from_parts_unchecked(positive, number, exponent));
     }
-    let (number, dropped, kept_fraction) = kept_prefix(whole, fraction, number);
+    let (number, dropped, kept_fraction) = kept_prefix(whole, fraction);
     if dropped > MAX_DROPPED {
         return Err(DigitFault::Whole(whole.len() - dropped + MAX_DROPPED));
     }
@@ -117,19 +117,14 @@ fn scan_by_bytes(bytes: &[u8], before: u64) -> (usize, u64)
 }
 
 /// The longest prefix of the digits that spells a number below 2^64: this number, how many digits
-/// before the point are dropped, and how many after it are kept. `number` is the one that all digits
-/// spell, modulo 2^64: if they are at most 19, it is the result's number.
-fn kept_prefix(whole: &[u8], fraction: &[u8], number: u64) -> (u64, usize, usize)
+/// before the point are dropped, and how many after it are kept.
+fn kept_prefix(whole: &[u8], fraction: &[u8]) -> (u64, usize, usize)
     requires whole { All IsDigit whole.now }
     requires fraction { All IsDigit fraction.now }
-    requires number { number ≡ digits_number (whole.now ++ fraction.now) % 2 ^ 64 }
     ensures number { result.0 ≡ digits_number (kept (whole.now ++ fraction.now)) }
     ensures dropped { result.1 ≡ dropped whole.now fraction.now }
     ensures kept { result.2 ≡ kept_fraction whole.now fraction.now }
 {
-    if whole.len() + fraction.len() <= ALWAYS_KEPT {
-        return (number, 0, fraction.len());
-    }
     let (number, count) = longest_prefix(0, whole);
     if count < whole.len() {
         return (number, whole.len() - count, 0);
@@ -186,6 +181,8 @@ fn clamped_exponent(dropped: usize, kept_fraction: usize, positive: bool, writte
 }
 
 /// The number that the digits spell, at most `MAX_WRITTEN`.
+#[cold]
+#[inline(never)]
 fn capped_number(digits: &[u8]) -> u32
     requires { All IsDigit digits.now }
     ensures { result ≡ min (digits_number digits.now) MAX_WRITTEN }

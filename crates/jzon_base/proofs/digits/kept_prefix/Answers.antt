@@ -1,23 +1,8 @@
-use Rattle.jzon_base.proofs.Common.{◌≡◌, ◌≤◌, ◌+◌, ◌∙◌, ◌++◌, take, length, length-append, arith, ap, sym, mod-eq_of_lt}
-use Rattle.jzon_base.proofs.Common.{take-append-le, take_all, All, All-append}
-use Rattle.jzon_base.specs.Digits.{digits_number, IsDigit, kept_len}
-use Rattle.jzon_base.proofs.Numbers.DigitPrefixes.{few_fit, few_kept, kept_len-within_whole, kept_len-past_whole, digits_number-take-append}
+use Rattle.jzon_base.proofs.Common.{◌≡◌, ◌+◌, ◌∙◌, ◌++◌, take, length, arith, ap, sym}
+use Rattle.jzon_base.proofs.Common.{take-append-le, take_all}
+use Rattle.jzon_base.specs.Digits.{digits_number, kept_len}
+use Rattle.jzon_base.proofs.Numbers.DigitPrefixes.{kept_len-within_whole, kept_len-past_whole, digits_number-take-append}
 use Rattle.jzon_base.proofs.digits.kept_prefix.Goals as goal
-
-pub returns-then-whole-fraction-le-ALWAYS_KEPT : goal.returns-then-whole-fraction-le-ALWAYS_KEPT
-returns-then-whole-fraction-le-ALWAYS_KEPT c =
-    let whole = c.args.whole.now in
-    let fraction = c.args.fraction.now in
-    let all : All IsDigit (whole ++ fraction) =
-    All-append IsDigit whole fraction c.requires.whole c.requires.fraction in
-    let few : length (whole ++ fraction) ≤ 19 = omega (arith, length-append whole fraction) in
-    let e : kept_len (whole ++ fraction) ≡ length (whole ++ fraction) = few_kept (whole ++ fraction) all few in
-    record {
-      number = rw (e, take_all (length (whole ++ fraction)) (whole ++ fraction) (omega arith))
-          (c.requires.number ∙ mod-eq_of_lt (few_fit (whole ++ fraction) all few));
-      dropped = omega (arith, e, length-append whole fraction);
-      kept = omega (arith, e, length-append whole fraction);
-    }
 
 pub returns-then-count-whole : goal.returns-then-count-whole
 returns-then-count-whole c =
