@@ -126,11 +126,8 @@ impl<'a, W: Write, S: Start> Buffered<'a, W, S> {
             (held W.contents S.start self.new) }
         ensures error { IfSome self.old.error (λ error. result ≡ error) }
     {
-        match self.error.take() {
-            Some(error) => error,
-            // Not reached.
-            None => io::Error::from(ErrorKind::Other),
-        }
+        // An error is there, so `Other` is never returned.
+        self.error.take().unwrap_or(io::Error::from(ErrorKind::Other))
     }
 }
 
