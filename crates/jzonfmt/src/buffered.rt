@@ -127,7 +127,9 @@ impl<'a, W: Write, S: Start> Buffered<'a, W, S> {
         ensures error { IfSome self.old.error (λ error. result ≡ error) }
     {
         // An error is there, so `Other` is never returned.
-        self.error.take().unwrap_or(io::Error::from(ErrorKind::Other))
+        self.error
+            .take()
+            .unwrap_or(io::Error::from(ErrorKind::Other))
     }
 }
 

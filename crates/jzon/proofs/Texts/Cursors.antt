@@ -54,11 +54,6 @@ pub reported_on : {t m : Cursor} {o p : State} (e : Stop) → Reached t o m p
 reported_on {t} {m} {o} {p} e h k = reported_again t.source.now e _ _ h.same
     (subst (λ bs. ReportsUnlessMemory bs e (left m p)) h.text k)
 
-pub goes_on : {A : Type 0} {t m : Cursor} {o p : State} (u : Cursor) (result : Result A Stop) (next : A → State)
-    → Reached t o m p → GoesOn m p result u next → GoesOn t o result u next
-goes_on u (Ok x) next h k = goes_after (next x) h k
-goes_on u (Err e) next h k = reported_on e h k
-
 -- an error that is propagated
 pub fails_on : {A : Type 0} {t m : Cursor} {o p : State} {e : Stop} (u : Cursor) (result : Result A Stop)
     (next : A → State) → IsErrAnd result (λ x. x ≡ e) → Reached t o m p

@@ -48,11 +48,8 @@ found c = elim c.if-next-ne44.branch [
 pub returns-then-next-closer-2 : goal.returns-then-next-closer-2
 returns-then-next-closer-2 c p fs v here before =
     let t = c.args.self.now in
-    let u : Cursor = record {
-      source = t.source;
+    let u : Cursor = record t {
       index = c.skip_whitespace-at.result;
-      reading = t.reading;
-      utf8 = t.utf8;
       boundary = c.skip_whitespace-at.ensures.boundary;
       past_whitespace = c.skip_whitespace-at.ensures.stop;
     } in
