@@ -4,8 +4,8 @@
 //! (docs/ARCHITECTURE.md). At `Ok(x)`, the run from the state `p` at the cursor `before` has the
 //! outcome of the run from the state `next x` at the cursor `after`; at `Err`, the stop becomes the
 //! error of this outcome, or is `Memory`. `EndsItem` and `EndsKey` say so of what follows an
-//! element, an entry or a key that ends at byte `end`. `IsPast r bytes end cursor` says that the
-//! cursor is after byte `end` and the whitespace there. `fs` are the open containers; a state such
+//! element, an entry or a key that ends before byte `end`. `IsPast r bytes end cursor` says that the
+//! cursor is after the bytes before `end`, and after the whitespace that follows them. `fs` are the open containers; a state such
 //! as `before fs` or `after_closer fs v` is named by what was read in them or comes next, and has
 //! the value `v` that was read last. `Reports bytes e o` says that the stop `e` becomes the error
 //! of the outcome `o`.
@@ -135,8 +135,9 @@ impl<'a> Cursor<'a> {
 
     /// Moves past the opening bracket that comes next, inside of `depth` containers. Returns
     /// whether the container is empty, and then moves past its closing bracket too. If it isn't
-    /// empty, the error is `At` at the end of the text, and `Limit` if `depth` is the most that the
-    /// reading allows. (`value_mark r fs` is the breach of a value in `fs`, if it is too deep.)
+    /// empty, the call fails at the end of the text (`Stop::At`), and else if `depth` is the most
+    /// that the reading allows (`Stop::Limit`). (`value_mark r fs` is the breach of a value in `fs`,
+    /// if it is too deep.)
     #[inline(always)]
     pub(crate) fn open_container(&mut self, kind: ContainerKind, depth: usize) -> Result<bool>
         requires room { depth ≤ self.old.reading.depth }

@@ -11,8 +11,9 @@ pub fn one_reading()
     ensures { OneReading }
 {}
 
-/// The text of a tree is the same in each reading. Each of its characters has at most one breach by
-/// definition, and no breach of a number's digits is lost by that.
+/// The text of a tree is the same in each reading. A character has at most one breach. Only the
+/// first digit of a number could have two, and it never exceeds a limit of digits, so no breach of
+/// digits is hidden.
 pub fn one_spelling()
     ensures text { OneText }
     ensures breach { DigitBreaches }

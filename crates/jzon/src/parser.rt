@@ -51,7 +51,7 @@ use std::alloc::Global;
 /// - `UnexpectedEndOfJson` if the text ends too early;
 /// - `ExceededDepthLimit` if more than 512 containers that aren't empty are open, or if more than
 ///   32767 digits before a number's point are cut or more than 32768 after it are kept;
-/// - `FailedUtf8Parsing` if two `\u` escapes of surrogates mean no character together;
+/// - `FailedUtf8Parsing` if a `\u` escape of a surrogate and the `\u` escape after it mean no character;
 /// - `OutOfMemory` if an allocation fails before that. A text without strings, arrays and objects
 ///   allocates nothing.
 ///

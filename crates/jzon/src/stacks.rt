@@ -38,8 +38,8 @@ use std::mem;
 /// object.
 const FIRST_ROOM: usize = 8;
 
-/// How many values there is room for when the first room is full: the most of a block that glibc
-/// still keeps at hand after it is freed.
+/// How many values there is room for when the first room is full: as many as fit in the largest
+/// block that glibc keeps at hand after it is freed.
 const SECOND_ROOM: usize = 21;
 
 /// Up to this many values of a nested container are always copied to a block of their own
@@ -193,8 +193,8 @@ fn close_known(known: &mut Option<KnownKeys>, around: &mut Vec<KnownKeys>)
 }
 
 /// In a strict reading: the object of these keys, which are distinct, and as many values. `known`
-/// is what is known of these keys, and then of no keys, for the next container. The error is a
-/// failed allocation.
+/// is what is known of these keys. It is left as that of no keys, because the innermost container
+/// then has none. The error is a failed allocation.
 #[cold]
 #[inline(never)]
 fn object_of_known(

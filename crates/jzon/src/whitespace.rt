@@ -70,8 +70,8 @@ fn whitespace_length(bytes: &[u8], strict: bool) -> usize
 }
 
 /// Which of the `LANES` bytes at an offset are not tabs, newlines, carriage returns or spaces, a
-/// bit for each. The clauses say that no bit is set if all are, and that the lowest one that is set
-/// is that of the first other byte.
+/// bit for each. The clauses say that all are if no bit is set, and else that the lowest bit that is
+/// set is that of the first other byte.
 #[inline(always)]
 fn others_in_lanes(bytes: &[u8], start: usize) -> u64
     requires { start + LANES ≤ length bytes.now }

@@ -1,8 +1,8 @@
 //! Numbers as integers (docs/RULES.md, "Integer readings"). Only a number of exponent 0 is one:
 //! `1.0`, `5e2` and `100e-2` aren't. For these there is `as_exact_fixed_point_u64(0)`.
 //!
-//! In clauses, `SomeWhere o P r` says that `r` is `Some` of the integer in `o`, if there is one and
-//! `P` holds of it, and else `None`; `OkWhere` says this of `Ok` and `Err`.
+//! In clauses, `OkWhere o P r` says that `r` is `Ok` of the integer in `o`, if there is one and `P`
+//! holds of it, and else an `Err`.
 
 ghost use Rattle.std.specs.Prelude.{◌<◌, ◌^◌, FitsSigned};
 ghost use Rattle.std.specs.Int.{w8, w16, w32, w64};

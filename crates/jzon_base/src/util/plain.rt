@@ -126,8 +126,9 @@ fn plain_in_lanes<const N: usize>(bytes: &[u8], start: usize) -> usize
     }
 }
 
-/// Which of the `N` bytes at an offset need an escape, a bit for each. The clauses say that no bit
-/// is set if none does, and that the lowest one that is set is that of the first byte that does.
+/// Which of the `N` bytes at an offset need an escape, a bit for each. The clauses say that none
+/// does if no bit is set, and else that the lowest bit that is set is that of the first byte that
+/// does.
 #[inline(always)]
 fn escapes_in_lanes<const N: usize>(bytes: &[u8], start: usize) -> u64
     requires few { N ≤ 32 }

@@ -68,7 +68,7 @@ fn show_object<W: fmt::Write>(object: &Object, f: &mut fmt::Formatter<W>) -> fmt
     ensures { WritesOnOk W.write_str_gives f.old result (compact (view_object object.now)) f.new }
 {
     f.write_str("{")?;
-    // The position also says whether a comma comes first.
+    // By position, because the invariant says which entries are left from `index` on.
     for index in 0..object.len() {
         let (key, value) = object.pairs.get_at(index);
         show_comma(index > 0, f)?;

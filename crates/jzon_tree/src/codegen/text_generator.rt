@@ -4,7 +4,12 @@
 //! In clauses, `text_meaning P.out P.lender L.style g` is the state of the generator `g`: the bytes
 //! of its destination, its indents and faults, the style of its layout, and the reference that it
 //! writes through. `fresh out style lender` is such a state without an indent or a fault. `Emits`
-//! says what a hook adds, as in `generator`.
+//! says what a hook adds, as in `generator`; `Added` and `Failed` are its parts for `Ok` and `Err`.
+//! `IsAnswer style keys answer` says that the style allows this order of the keys.
+//!
+//! A hook `try_..` does what the hook of that name does, and stores an error in the slot
+//! (`error_slot`). The contracts of all hooks are in `generator`. A `put_..` of the destination adds
+//! all and returns `true`, or adds nothing and returns `false`.
 
 ghost use Rattle.std.specs.Prelude.{◌≡◌, [], Ok, None, Some, IsSome, IsTrue, IsUtf8, IfErr, IfOk, MatchResult, OnErr, string_bytes};
 ghost use Rattle.std.specs.IoError.{error_kind};
@@ -153,8 +158,9 @@ impl<P: Destination, L: Layout> Generator for TextGenerator<P, L> {
         take_result(step, slot)
     }
 
-    /// The order of the layout. If its `keeps_order` holds, that is `None`, and nothing of the
-    /// generator changes.
+    /// What the layout's `order` returns: the positions of the entries as they are to be written, or
+    /// `None` for the order of insertion. If the layout always returns `None` (`keeps_order`),
+    /// nothing of the generator changes.
     #[inline(always)]
     fn order(&mut self, object: &Object) -> io::Result<Option<Vec<usize>>>
         ensures answer { MatchResult result

@@ -1,6 +1,10 @@
 //! Writes into a value, by calls whose contracts say what the value is afterwards. In these,
 //! `with_place null items index` are the elements once there is one for the index, as
 //! `at_index_mut` adds it, and `place_in items index` is the position of this one.
+//!
+//! A function `.._in` does the same for any type of the trait `Tree`, whose nodes are its values:
+//! `T.pairs` are the entries of an object, and `T.object` is the object of some entries. The checker
+//! proves a write through a reference only if its type isn't that of the receiver.
 #![tactic(auto, using(crate::proofs::Values::WriteViews::written))]
 
 ghost use Rattle.std.specs.Prelude.{◌≡◌, ◌≤◌, length, slice_set, IfSome, OnOk, OnErr, IsOkUnless, MatchOption, is_some, None, Some, true, false};
@@ -58,8 +62,7 @@ pub fn write_at_index(
     write_at_index_in(value, alloc, index, item)
 }
 
-/// `write_present` of any tree: the checker proves a write back only if node and tree are of
-/// different types.
+/// `write_present` of any tree.
 fn write_present_in<T: Tree>(tree: &mut T, key: &str, value: T::Node) -> bool
 where
     T::Node: Drop,

@@ -1,5 +1,5 @@
-//! The index of fewer keys, in the room of the index of more. Each run keeps its length as far as
-//! there are keys. In clauses, `hashed_from n keys` are the index entries of keys with positions
+//! The index after `Keys::retain`: that of the keys that are left, in the room of the old one. The
+//! runs are filled one after the other, each up to its old length. In clauses, `hashed_from n keys` are the index entries of keys with positions
 //! from `n` on, and `entry_cmp keys` is their order, by hashes and then texts. `IsIndexOf hashes
 //! keys runs` says that the runs have one entry for each key, with its hash in the list, and are
 //! sorted.
@@ -26,8 +26,8 @@ fn put_hashed(entries: &mut [(u64, usize)], keys: &[Key], from: usize)
 }
 
 impl Run {
-    /// Replaces the entries by those of the keys from a position on, at most as many, and returns
-    /// the position after them. Takes no memory.
+    /// Replaces the entries by those of as many keys from a position on, or of all that are left,
+    /// and returns the position after them. Takes no memory.
     fn refill(&mut self, keys: &[Key], from: usize) -> usize
         requires { from ≤ length keys.now }
         ensures end { result ≡ min (from + length self.old) (length keys.now) }
