@@ -4,11 +4,11 @@
 //! (docs/ARCHITECTURE.md). At `Ok(x)`, the run from the state `p` at the cursor `before` has the
 //! outcome of the run from the state `next x` at the cursor `after`; at `Err`, the stop becomes the
 //! error of this outcome, or is `Memory`. `EndsItem` and `EndsKey` say so of what follows an
-//! element, an entry or a key that ends before byte `end`. `IsPast r bytes end cursor` says that the
-//! cursor is after the bytes before `end`, and after the whitespace that follows them. `fs` are the open containers; a state such
-//! as `before fs` or `after_closer fs v` is named by what was read in them or comes next, and has
-//! the value `v` that was read last. `Reports bytes e o` says that the stop `e` becomes the error
-//! of the outcome `o`.
+//! element, an entry or a key that ends before byte `end`. `IsPast r bytes end cursor` says that
+//! the cursor is after the bytes before `end`, and after the whitespace that follows them. `fs` are
+//! the open containers; a state such as `before fs` or `after_closer fs v` is named by what was
+//! read in them or comes next, and has the value `v` that was read last. `Reports bytes e o` says
+//! that the stop `e` becomes the error of the outcome `o`.
 
 ghost use Rattle.std.specs.Prelude.{◌≡◌, ◌≢◌, ◌<◌, ◌≤◌, ◌+◌, length, chars, drop, false, slice_index, Err, IfOk, None, Some, if◌then◌else◌, MatchOption};
 ghost use Rattle.std.specs.Str.{IsCharBoundary, IsUtf8};
@@ -136,8 +136,8 @@ impl<'a> Cursor<'a> {
     /// Moves past the opening bracket that comes next, inside of `depth` containers. Returns
     /// whether the container is empty, and then moves past its closing bracket too. If it isn't
     /// empty, the call fails at the end of the text (`Stop::At`), and else if `depth` is the most
-    /// that the reading allows (`Stop::Limit`). (`value_mark r fs` is the breach of a value in `fs`,
-    /// if it is too deep.)
+    /// that the reading allows (`Stop::Limit`). (`value_mark r fs` is the breach of a value in
+    /// `fs`, if it is too deep.)
     #[inline(always)]
     pub(crate) fn open_container(&mut self, kind: ContainerKind, depth: usize) -> Result<bool>
         requires room { depth ≤ self.old.reading.depth }
@@ -168,9 +168,9 @@ impl<'a> Cursor<'a> {
         Ok(false)
     }
 
-    /// Moves past the comma or the closing bracket after an element or an entry that ends at `end`, at
-    /// the cursor or after it. Returns whether the container ends. Most texts have no whitespace there,
-    /// so it is skipped only if neither a comma nor a closing bracket is at `end`.
+    /// Moves past the comma or the closing bracket after an element or an entry that ends at `end`,
+    /// at the cursor or after it. Returns whether the container ends. Most texts have no whitespace
+    /// there, so it is skipped only if neither a comma nor a closing bracket is at `end`.
     #[inline(always)]
     pub(crate) fn container_ends(&mut self, end: usize, kind: ContainerKind) -> Result<bool>
         requires boundary { IsCharBoundary self.old.source.now end }
@@ -190,8 +190,8 @@ impl<'a> Cursor<'a> {
         Ok(next != b',')
     }
 
-    /// Moves past the colon after the key that ends at `end`. Whitespace before the colon is skipped
-    /// only if no colon is at `end`.
+    /// Moves past the colon after the key that ends at `end`. Whitespace before the colon is
+    /// skipped only if no colon is at `end`.
     #[inline(always)]
     pub(crate) fn colon_at(&mut self, end: usize) -> Result<()>
         requires boundary { IsCharBoundary self.old.source.now end }

@@ -5,7 +5,7 @@
 //! stop `e` becomes the error of the outcome `o`.
 //!
 //! States: `numeral_after_first fs negative d` is after the first digit `d` of a number, inside the
-//! containers `fs`; `numeral fs negative (lettered ws ds l)` is after the letter `l` of an
+//! containers `fs`; `numeral fs negative (after_letter ws ds l)` is after the letter `l` of an
 //! exponent, with the digits `ws` before the point and `ds` after it; `after_value fs v` is after
 //! the value `v`. From the first of these states, `LeadsTo source start end p` leads to the state
 //! `p` at byte `end`; `MissesDigit source start end` to the fault that a digit is missing at `end`;
@@ -26,7 +26,7 @@ ghost use Rattle.jzon_base.specs.declared.digits.DigitFault.{DigitFault};
 ghost use Rattle.jzon_tree.specs.Value.{number};
 ghost use Rattle.jzon.specs.Reading.{Reading};
 ghost use Rattle.jzon.specs.Grammar.{is_exponent_letter};
-ghost use Rattle.jzon.specs.Private.Classes.{lettered};
+ghost use Rattle.jzon.specs.Private.Classes.{after_letter};
 ghost use Rattle.jzon_base.specs.Tokens.{zero_digit};
 ghost use Rattle.jzon.specs.Private.Machine.{Frames, numeral, numeral_after_first, after_value, from, fault_here, Leads};
 ghost use Rattle.jzon.specs.Private.Numerals.{LeadsTo, MissesDigit, HasTooMany};
@@ -129,7 +129,7 @@ fn magnitude_at(source: &str, start: usize) -> Spelling<'_>
         → result.end < length source.now
         → IsTrue (is_exponent_letter (slice_index source.now result.end))
         → LeadsTo source.now start (result.end + 1) (λ fs negative. numeral fs negative
-        (lettered result.whole.now result.fraction.now (slice_index source.now result.end))) }
+        (after_letter result.whole.now result.fraction.now (slice_index source.now result.end))) }
     ensures number { AreFewEnough result.whole.now result.fraction.now → result.is_missing ≡ false
         → (result.end < length source.now → is_exponent_letter (slice_index source.now result.end)
         ≡ false)
@@ -225,13 +225,13 @@ fn exponent_after(source: &str, start: usize) -> Exponent<'_>
     ensures number { 0 < length result.digits.now →
         (r : Reading) (fs : Frames) (negative : Bool) (ws ds : List ℕ)
         (l : ℕ)
-        → from r source.now (numeral fs negative (lettered ws ds l)) start
+        → from r source.now (numeral fs negative (after_letter ws ds l)) start
         ≡ from r source.now (after_value fs (number (read_number (not negative) ws ds
         (signed result.is_positive (digits_number result.digits.now))))) result.end }
     ensures missing { length result.digits.now ≡ 0 →
         (r : Reading) (fs : Frames) (negative : Bool) (ws ds : List ℕ)
         (l : ℕ)
-        → from r source.now (numeral fs negative (lettered ws ds l)) start
+        → from r source.now (numeral fs negative (after_letter ws ds l)) start
         ≡ fault_here (chars (drop result.end source.now)) }
 {
     let (is_positive, first) = match byte_at(source, start) {

@@ -12,15 +12,16 @@
 //! where `read_value` and `end_containers` end. `frames_here stacks` are all open containers, and
 //! `frames_around stacks` all but the innermost one, whose value is `whole stacks.innermost`.
 //! Conditions: `IsBeforeItem`, `IsAfterValue` and `IsAfterEnd` hold of the cursor and the stacks in
-//! these states. `IsEven kind c` says that each key of `c` has its value, and `AwaitsValue kind c`
-//! that the last one has none yet. `KeepsAround` says that the containers around are as before.
+//! these states. `HasAllValues kind c` says that each key of `c` has its value, and `AwaitsValue
+//! kind c` that the last one has none yet. `KeepsAround` says that the containers around are as
+//! before.
 
 ghost use Rattle.std.specs.Prelude.{◌≡◌, ◌≢◌, ◌<◌, ◌+◌, length, chars, IfOk, IfErr, Err, None, Some, OnOk, true};
 ghost use Rattle.jzon_tree.specs.View.{view};
 ghost use Rattle.jzon.specs.Answer.{IsMeaningOf, IsReadable, IsErrorUnlessMemory, TakesMemory};
 ghost use Rattle.jzon.specs.Private.Cursor.{left, next_byte, GoesOn, PassesOn};
 ghost use Rattle.jzon.specs.Private.Machine.{no_frames, is_fresh, before, after_value, from, Reads};
-ghost use Rattle.jzon.specs.Private.OpenContainers.{frames_around, frames_here, before_item, after_end, whole, IsEven, AwaitsValue, IsBeforeItem, IsAfterEnd, KeepsAround};
+ghost use Rattle.jzon.specs.Private.OpenContainers.{frames_around, frames_here, before_item, after_end, whole, HasAllValues, AwaitsValue, IsBeforeItem, IsAfterEnd, KeepsAround};
 ghost use Rattle.jzon.specs.Private.Read.{after_read, IsAfterValue, ReadsItems};
 ghost use Rattle.jzon.specs.Reading.{usual};
 ghost use Rattle.jzon_base.specs.Tokens.{end_array};
@@ -51,7 +52,8 @@ use std::alloc::Global;
 /// - `UnexpectedEndOfJson` if the text ends too early;
 /// - `ExceededDepthLimit` if more than 512 containers that aren't empty are open, or if more than
 ///   32767 digits before a number's point are cut or more than 32768 after it are kept;
-/// - `FailedUtf8Parsing` if a `\u` escape of a surrogate and the `\u` escape after it mean no character;
+/// - `FailedUtf8Parsing` if a `\u` escape of a surrogate and the `\u` escape after it mean no
+///   character;
 /// - `OutOfMemory` if an allocation fails before that. A text without strings, arrays and objects
 ///   allocates nothing.
 ///
@@ -266,7 +268,7 @@ impl<'a> Parser<'a> {
     /// one, if it ended.
     #[inline(always)]
     fn end_containers(&mut self) -> fault::Result<Option<JsonValue>>
-        requires even { IsEven self.old.stacks.innermost.kind self.old.stacks.innermost }
+        requires even { HasAllValues self.old.stacks.innermost.kind self.old.stacks.innermost }
         requires room { length self.old.stacks.around < self.old.cursor.reading.depth }
         ensures strict { IfOk result (λ v. v ≡ None
             → self.new.stacks.strict ≡ self.old.stacks.strict) }

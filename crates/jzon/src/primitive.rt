@@ -25,7 +25,7 @@ ghost use Rattle.jzon_base.specs.Tokens.{begin_array, begin_object, quotation_ma
 use crate::bytes_at::{byte_at, has_byte, has_four};
 use crate::fault::{Result, Stop, fault_at};
 use crate::numeral::read_number;
-use crate::string::{put_text, read_string};
+use crate::string::{put_string_value, read_string};
 use crate::target::Target;
 use jzon_tree::value::JsonValue;
 use std::alloc::Global;
@@ -64,7 +64,7 @@ pub(crate) fn put_primitive<T: Target>(
         b'"' => {
             let spelled = read_string(source, start + 1, buffer)?;
             let (content, wide) = spelled.text(source, start + 1, buffer);
-            put_text(alloc, content, wide, target)?;
+            put_string_value(alloc, content, wide, target)?;
             Ok(spelled.end)
         }
         b'n' | b't' | b'f' => put_literal(source, start, first, target),

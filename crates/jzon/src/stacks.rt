@@ -2,12 +2,12 @@
 //! each container has a part of both, and is made of it at its end.
 //!
 //! A clause sees a list of containers, each with its kind, keys and values. `AwaitsValue kind c`
-//! says that the last key of an object has no value yet, and `IsEven kind c` that each key has one;
-//! both hold of an array, which has no keys. `whole c` is the value of the container if it ends
-//! now. `value_added s v`, `key_added s k` and `container_added s kind` are the stacks `s` with one
-//! more value, key or container in the innermost one, and `innermost_ended s` has nothing in it.
-//! `IsAdded s v t` says that `t` has the containers around the innermost one of `s`, and the value
-//! `v` added to the last of them; `IsClosed s t` says so of the value of the innermost one.
+//! says that the last key of an object has no value yet, and `HasAllValues kind c` that each key
+//! has one; both hold of an array, which has no keys. `whole c` is the value of the container if it
+//! ends now. `value_added s v`, `key_added s k` and `container_added s kind` are the stacks `s`
+//! with one more value, key or container in the innermost one, and `innermost_ended s` has nothing
+//! in it. `IsAdded s v t` says that `t` has the containers around the innermost one of `s`, and the
+//! value `v` added to the last of them; `IsClosed s t` says so of the value of the innermost one.
 
 ghost use Rattle.std.specs.Prelude.{◌≡◌, ◌≢◌, ◌&&◌, if◌then◌else◌, slice_index, IfSome, None, Some, ◌≤◌, ◌<◌, [], ◌∷◌, ◌++◌, length, take, drop, vec_len, vec_capacity, IfOk, OnOk, OnErr, MatchOption, true, ◌+◌};
 ghost use Rattle.std.specs.List.{zip};
@@ -16,7 +16,7 @@ ghost use Rattle.jzon_base.specs.PairList.{find, put_each};
 ghost use Rattle.jzon_base.specs.Private.Known.{Knows};
 ghost use Rattle.jzon_tree.specs.Entries.{entries_of};
 ghost use Rattle.jzon_tree.specs.View.{view, view_object};
-ghost use Rattle.jzon.specs.Private.OpenContainers.{OpenContainers, entries_so_far, IsEven, AwaitsValue, new_container, IsAdded, IsClosed, whole, value_added, key_added, container_added, innermost_ended};
+ghost use Rattle.jzon.specs.Private.OpenContainers.{OpenContainers, entries_so_far, HasAllValues, AwaitsValue, new_container, IsAdded, IsClosed, whole, value_added, key_added, container_added, innermost_ended};
 ghost use Rattle.jzon.specs.Private.Brackets.{empty_container};
 ghost use Rattle.jzon.specs.Private.Machine.{before};
 ghost use Rattle.jzon.specs.Private.Targets.{MayBegin, Puts};
@@ -301,7 +301,7 @@ impl Stacks {
     #[inline(always)]
     pub(crate) fn push_key(&mut self, name: &str, wide: &str) -> Result<bool, AllocError>
         requires object { self.old.innermost.kind ≡ ContainerKind.Object }
-        requires even { IsEven ContainerKind.Object self.old.innermost }
+        requires even { HasAllValues ContainerKind.Object self.old.innermost }
         requires wide { take (length name.now) wide.now ≡ name.now }
         ensures rejected { IfOk result (λ rejected. rejected ≡ (self.old.strict
             && is_some (find name.now (entries_so_far self.old.innermost)))) }
@@ -320,7 +320,7 @@ impl Stacks {
     #[inline(never)]
     fn push_new_key(&mut self, name: &str, wide: &str) -> Result<bool, AllocError>
         requires strict { self.old.strict ≡ true }
-        requires even { IsEven ContainerKind.Object self.old.innermost }
+        requires even { HasAllValues ContainerKind.Object self.old.innermost }
         requires wide { take (length name.now) wide.now ≡ name.now }
         ensures rejected { IfOk result (λ rejected. rejected
             ≡ is_some (find name.now (entries_so_far self.old.innermost))) }
@@ -386,7 +386,7 @@ impl Stacks {
     #[inline(always)]
     fn end_object(&mut self) -> Result<Object, AllocError>
         requires object { self.old.innermost.kind ≡ ContainerKind.Object }
-        requires even { IsEven ContainerKind.Object self.old.innermost }
+        requires even { HasAllValues ContainerKind.Object self.old.innermost }
         ensures object { IfOk result (λ object. view_object object ≡ whole self.old.innermost) }
         ensures ok { OnOk result (self.new ≡ innermost_ended self.old) }
     {
@@ -429,7 +429,7 @@ impl Stacks {
     /// allocation; the stacks are unspecified then.
     #[inline(always)]
     pub(crate) fn close(&mut self) -> Result<Option<JsonValue>, AllocError>
-        requires { IsEven self.old.innermost.kind self.old.innermost }
+        requires { HasAllValues self.old.innermost.kind self.old.innermost }
         ensures outermost { IfOk result (λ v. IfSome v (λ w. (self.old.around ≡ [])
             × (view w ≡ whole self.old.innermost))) }
         ensures inner { IfOk result (λ v. v ≡ None → IsClosed self.old self.new) }

@@ -6,8 +6,8 @@
 //! outcome after a string with this content, whose closing quote is before byte `i`.
 //!
 //! The state `string role bs s` is in a string: `role` says whether it is a value or a key, `bs`
-//! are the bytes of its content so far, and `s` is `between` characters, `slash` after a backslash,
-//! `code` in the digits of an escape, or `second`, `second_slash` or `second_code` in the second
+//! are the bytes of its content so far, and `s` is `between` characters, `after_backslash`, `code`
+//! in the digits of an escape, or `second`, `second_backslash` or `second_code` in the second
 //! escape of a surrogate pair. `ReadsCharacter source start p result` says that from such a state
 //! `p` at byte `start`, an `Ok` leads on to `between`, with one more character in `bs`.
 //! `EndsAtQuote source start end` says that the byte before `end` is a quote, and not before
@@ -24,7 +24,7 @@ ghost use Rattle.jzon.specs.Grammar.{is_high, is_low, is_surrogate, code_unit};
 ghost use Rattle.jzon.specs.Meaning.{pair_char};
 ghost use Rattle.jzon.specs.Private.Quote.{EndsAtQuote, ReadsCharacter, ReadsUnit, ReadsSecondUnit};
 ghost use Rattle.jzon.specs.declared.fault.Stop.TheVariants.{Memory};
-ghost use Rattle.jzon.specs.Private.Machine.{Role, string, between, slash, code, second, second_code, after_unit, move_pair, outcome_on, from, from_closed, Reports};
+ghost use Rattle.jzon.specs.Private.Machine.{Role, string, between, after_backslash, code, second, second_code, after_unit, move_pair, outcome_on, from, from_closed, Reports};
 
 use crate::bytes_at::{byte_at, has_byte};
 use crate::fault::{Result, Stop, fault_at};
@@ -73,7 +73,7 @@ impl Spelled {
 /// Puts the string `content` into the target. Up to 30 bytes are stored inline, which never fails,
 /// and more are allocated. `wide` begins with `content`. The error is `Memory`.
 #[inline(always)]
-pub(crate) fn put_text<T: Target>(
+pub(crate) fn put_string_value<T: Target>(
     alloc: Global,
     content: &str,
     wide: &str,
@@ -195,7 +195,7 @@ fn read_escapes(source: &str, start: usize, buffer: &mut String) -> Result<usize
 fn read_escape(source: &str, start: usize) -> Result<(char, usize)>
     requires { IsCharBoundary source.now start }
     ensures end { IfOk result (λ r. (start < r.1) × IsCharBoundary source.now r.1) }
-    ensures outcome { ReadsCharacter source.now start (λ role bs. string role bs slash) result }
+    ensures outcome { ReadsCharacter source.now start (λ role bs. string role bs after_backslash) result }
 {
     if has_byte(source, start, b'u') {
         let digits = start + 1;

@@ -47,8 +47,8 @@ fn is_above_space(source: &str, index: usize) -> bool
     index < bytes.len() && bytes[index] > b' '
 }
 
-/// How many bytes at the start are whitespace. Most whitespace is a newline and the indentation after
-/// it, so `LANES` bytes are compared at once.
+/// How many bytes at the start are whitespace. Most whitespace is a newline and the indentation
+/// after it, so `LANES` bytes are compared at once.
 #[inline(never)]
 fn whitespace_length(bytes: &[u8], strict: bool) -> usize
     ensures { result ≡ prefix_len (is_whitespace strict) bytes.now }
@@ -70,8 +70,8 @@ fn whitespace_length(bytes: &[u8], strict: bool) -> usize
 }
 
 /// Which of the `LANES` bytes at an offset are not tabs, newlines, carriage returns or spaces, a
-/// bit for each. The clauses say that all are if no bit is set, and else that the lowest bit that is
-/// set is that of the first other byte.
+/// bit for each. The clauses say that all are if no bit is set, and else that the lowest bit that
+/// is set is that of the first other byte.
 #[inline(always)]
 fn others_in_lanes(bytes: &[u8], start: usize) -> u64
     requires { start + LANES ≤ length bytes.now }

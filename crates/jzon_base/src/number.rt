@@ -214,9 +214,9 @@ impl fmt::Display for Number {
     }
 }
 
-/// Whether two numbers of one sign, neither 0, with these mantissas and exponents are equal: that of
-/// the higher exponent is scaled down to the lower one. In clauses, `scaled m e` is
-/// `m * 10 ^ (e + 32768)`, an integer for each exponent.
+/// Whether two numbers of one sign, neither 0, with these mantissas and exponents are equal: that
+/// of the higher exponent is scaled down to the lower one. In clauses, `scaled m e` is an integer for
+/// each exponent: `m * 10 ^ (e + 32768)`.
 #[tactic(auto, using(crate::proofs::Numbers::Scaling::same_rules))]
 fn same_magnitude(mantissa: u64, exponent: i16, other_mantissa: u64, other_exponent: i16) -> bool
     requires left { 0 < mantissa }

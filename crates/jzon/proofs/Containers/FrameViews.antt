@@ -14,7 +14,7 @@ use Rattle.jzon.specs.Private.Brackets.{innermost_kind, after_comma, after_close
 use Rattle.jzon.specs.Private.Machine.{EntriesSoFar, Frames, array_frame, frames_depth, is_fresh}
 use Rattle.jzon.specs.Private.Machine.{before, before_key, after_value, value_mark, key_mark}
 use Rattle.jzon.specs.Private.OpenContainers.{Container, entries_so_far, last_key, open_as, frames_in, whole_as}
-use Rattle.jzon.specs.Private.OpenContainers.{before_item_as, AwaitsValue, IsEven, with_value}
+use Rattle.jzon.specs.Private.OpenContainers.{before_item_as, AwaitsValue, HasAllValues, with_value}
 use Rattle.jzon.specs.declared.cursor.ContainerKind.{ContainerKind}
 use Rattle.jzon.specs.declared.cursor.ContainerKind.TheVariants.{Array, Object}
 
@@ -105,7 +105,7 @@ after_closer-whole Array fs c v h =
     ap (λ ws. after_value fs (array (values_of ws))) (sym (map-append view c.values (v ∷ [])))
 after_closer-whole Object fs c v h = ap (λ es. after_value fs (object (pairs_of es))) (sym (entries_with_value c v h))
 
-pub even_again : (b : ContainerKind) (c : Container) (v : JsonValue) → AwaitsValue b c → IsEven b (with_value c v)
+pub even_again : (b : ContainerKind) (c : Container) (v : JsonValue) → AwaitsValue b c → HasAllValues b (with_value c v)
 even_again Array c v h = h
 even_again Object c v h = h ∙ sym (length-append c.values (v ∷ []))
 

@@ -11,7 +11,7 @@ use Rattle.jzon.specs.Private.Cursor.{left, IsAfter, GoesOn}
 use Rattle.jzon.specs.Private.Machine.{State, no_frames, before_key, after_value, object_frame, frames_depth}
 use Rattle.jzon.specs.Private.Machine.{value_mark, key_mark}
 use Rattle.jzon.specs.Private.OpenContainers.{Container, OpenContainers, entries_so_far, frames_in}
-use Rattle.jzon.specs.Private.OpenContainers.{frames_around, frames_here, whole, before_item_as, before_item, IsEven}
+use Rattle.jzon.specs.Private.OpenContainers.{frames_around, frames_here, whole, before_item_as, before_item, HasAllValues}
 use Rattle.jzon.specs.Private.OpenContainers.{AwaitsValue, value_added, key_added, KeepsAround, IsBeforeItem, new_container}
 use Rattle.jzon.specs.Private.OpenContainers.{IsClosed}
 use Rattle.jzon.specs.declared.cursor.ContainerKind.{ContainerKind}
@@ -66,7 +66,7 @@ pub added_keeps : (s u : OpenContainers) (v : JsonValue) → u ≡ value_added s
 added_keeps s u v e = rw e (record { strict = refl; kind = refl; around = refl })
 
 pub added_even : (s u : OpenContainers) (v : JsonValue) → AwaitsValue s.innermost.kind s.innermost
-    → u ≡ value_added s v → IsEven u.innermost.kind u.innermost
+    → u ≡ value_added s v → HasAllValues u.innermost.kind u.innermost
 added_even s u v h e = rw e (even_again s.innermost.kind s.innermost v h)
 
 pub added_before : (n : Cursor) (s u : OpenContainers) (v : JsonValue) → AwaitsValue s.innermost.kind s.innermost
@@ -96,7 +96,7 @@ goes_to_item t n o s u v b h e is read =
 
 -- ---- a key was added
 
-pub key_here : (s u : OpenContainers) (k : List ℕ) → s.innermost.kind ≡ Object → IsEven Object s.innermost
+pub key_here : (s u : OpenContainers) (k : List ℕ) → s.innermost.kind ≡ Object → HasAllValues Object s.innermost
     → u ≡ key_added s k → object_frame (frames_around s) (entries_so_far s.innermost) k ≡ frames_here u
 key_here s u k e even is =
     rw (is, e, zip_key s.innermost.keys s.innermost.values k even, last_of s.innermost.keys k) refl
@@ -104,7 +104,7 @@ key_here s u k e even is =
 pub key_keeps : (s u : OpenContainers) (k : List ℕ) → u ≡ key_added s k → KeepsAround s u
 key_keeps s u k is = rw is (record { strict = refl; kind = refl; around = refl })
 
-pub key_awaits : (s u : OpenContainers) (k : List ℕ) → IsEven Object s.innermost → u ≡ key_added s k
+pub key_awaits : (s u : OpenContainers) (k : List ℕ) → HasAllValues Object s.innermost → u ≡ key_added s k
     → AwaitsValue Object u.innermost
 key_awaits s u k even is =
     rw is (omega (arith, even, length-append s.innermost.keys (k ∷ [])))
@@ -137,7 +137,7 @@ none_zipped ks [] even e = refl
 none_zipped [] (v ∷ vs) even e = absurd (omega (arith, even))
 none_zipped (k ∷ ks) (v ∷ vs) even e = absurd (some_left ((k, v) ∷ []) (zip ks vs) (λ h. cc) e)
 
-pub no_entries : (c : Container) → IsEven Object c → entries_so_far c ≡ [] → c.values ≡ []
+pub no_entries : (c : Container) → HasAllValues Object c → entries_so_far c ≡ [] → c.values ≡ []
 no_entries c even e = none_zipped c.keys c.values even (no_views (put_each (zip c.keys c.values)) e)
 
 -- ---- a container was closed inside another one

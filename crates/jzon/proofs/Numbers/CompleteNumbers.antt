@@ -10,7 +10,7 @@ use Rattle.jzon.specs.Spelling.{Cell, cell, plain, onto, digits_cells, drops_too
 use Rattle.jzon.specs.Spelling.{exponent_cells, fraction_cells, numeral_cells}
 use Rattle.jzon.specs.Meaning.{number_of}
 use Rattle.jzon.specs.Private.Classes.{Class, digits, point, letter_e, class_of, NumberState, zero_read, whole}
-use Rattle.jzon.specs.Private.Classes.{fraction, lettered, exponent, after_first_digit, minus_char, plus_char}
+use Rattle.jzon.specs.Private.Classes.{fraction, after_letter, exponent, after_first_digit, minus_char, plus_char}
 use Rattle.jzon.specs.Private.Machine.{Frames, Move, before, numeral, after_value, Outcome, meant_at, last_numeral}
 use Rattle.jzon.specs.Private.Machine.{value_mark, number_value, exponent_of, move_after_value, move_after_whole}
 use Rattle.jzon.specs.Private.Machine.{move_numeral}
@@ -46,7 +46,7 @@ module _ (r : Reading) (G : Outcome → Type 0) (fs : Frames) (negative : Bool) 
       rw (digits-class r.strict e ok.0) (refl, read_exponent ws ds l s (e ∷ xs) es k ok.1 h)
 
   read_letter : (ws ds : List ℕ) (l : ℕ) (s : Sign) (es : List ℕ) (k : List Cell) → IsDigits es
-      → B ws ds (exponent_of l s es) k → F (sign_cells s (plain es k)) (lettered ws ds l)
+      → B ws ds (exponent_of l s es) k → F (sign_cells s (plain es k)) (after_letter ws ds l)
   read_letter ws ds l s [] k ok h = absurd ok
   read_letter ws ds l unsigned (e ∷ es) k ok h =
       rw (digits-class r.strict e ok.0) (refl, read_exponent ws ds l unsigned (e ∷ []) es k ok.1 h)

@@ -6,7 +6,7 @@ use Rattle.jzon.specs.Reading.{Reading}
 use Rattle.jzon.specs.Grammar.{Sign, unsigned, AreDigits, IsDigits}
 use Rattle.jzon.specs.Spelling.{digit, breach_if, onto, drops_too_many, keeps_too_many}
 use Rattle.jzon.specs.Fault.{limit}
-use Rattle.jzon.specs.Private.Classes.{NumberState, whole, pointed, fraction, lettered, signed_exponent, exponent}
+use Rattle.jzon.specs.Private.Classes.{NumberState, whole, pointed, fraction, after_letter, signed_exponent, exponent}
 use Rattle.jzon.specs.Private.Machine.{Frames, State, numeral, go, move, refused, outcome}
 use Rattle.jzon.proofs.Texts.ClassesOfCharacters.{digits-class}
 use Rattle.jzon.proofs.Numbers.NumberLimits.{AreUnmarked, IsFirstMarked, whole_unmarked, whole_marked}
@@ -89,7 +89,7 @@ module _ (r : Reading) (fs : Frames) (negative : Bool) where
 
   -- after the letter, and after a sign
   pub read_unsigned_exponent : (ws gs : List ℕ) (l : ℕ) (es rest : List ℕ) → IsDigits es
-      → outcome r (es ++ rest) (N (lettered ws gs l)) ≡ outcome r rest (N (exponent ws gs l unsigned (onto es [])))
+      → outcome r (es ++ rest) (N (after_letter ws gs l)) ≡ outcome r rest (N (exponent ws gs l unsigned (onto es [])))
   read_unsigned_exponent ws gs l [] rest ok = absurd ok
   read_unsigned_exponent ws gs l (e ∷ es) rest ok =
       rw (digits-class r.strict e ok.0) (read_more_exponent ws gs l unsigned (e ∷ []) es rest ok.1)

@@ -15,7 +15,7 @@ use Rattle.jzon.specs.Reading.{Reading, usual}
 use Rattle.jzon.specs.Grammar.{AreDigits, IsDigits, is_exponent_letter}
 use Rattle.jzon.specs.Spelling.{digit}
 use Rattle.jzon.specs.Fault.{limit}
-use Rattle.jzon.specs.Private.Classes.{pointed, lettered}
+use Rattle.jzon.specs.Private.Classes.{pointed, after_letter}
 use Rattle.jzon.specs.declared.fault.Stop.TheVariants.{Limit}
 use Rattle.jzon.specs.Private.Machine.{Frames, numeral, after_value, Outcome, refused, outcome, from, Reports}
 use Rattle.jzon.specs.Private.Numerals.{after_first, LeadsTo, MissesDigit, HasTooMany}
@@ -84,7 +84,7 @@ pub record ReadsMagnitude (bs : List ℕ) (i : ℕ) (ws ds : List ℕ) (e : ℕ)
   pub all_whole : All IsDigit ws
   pub all_fraction : All IsDigit ds
   pub to_letter : AreFewEnough ws ds → missing ≡ false → e < length bs → IsTrue (is_exponent_letter (get_or bs e 0))
-      → LeadsTo bs i (e + 1) (λ fs negative. numeral fs negative (lettered ws ds (get_or bs e 0)))
+      → LeadsTo bs i (e + 1) (λ fs negative. numeral fs negative (after_letter ws ds (get_or bs e 0)))
   pub to_end : AreFewEnough ws ds → missing ≡ false → (e < length bs → is_exponent_letter (get_or bs e 0) ≡ false)
       → LeadsTo bs i e (λ fs negative. after_value fs (value.number (read_number (not negative) ws ds (pos 0))))
   pub stops : AreFewEnough ws ds → missing ≡ true → MissesDigit bs i e

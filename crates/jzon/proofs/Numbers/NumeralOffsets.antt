@@ -11,12 +11,12 @@ use Rattle.jzon_tree.specs.Value as value
 use Rattle.jzon.specs.Reading.{Reading}
 use Rattle.jzon.specs.Grammar.{Sign, plus, minus, AreDigits, IsDigits}
 use Rattle.jzon.specs.Meaning as meaning
-use Rattle.jzon.specs.Private.Classes.{lettered, signed_exponent, plus_char, minus_char}
+use Rattle.jzon.specs.Private.Classes.{after_letter, signed_exponent, plus_char, minus_char}
 use Rattle.jzon.specs.Private.Machine.{Frames, numeral, after_value, outcome, from, fault_here}
 use Rattle.jzon.proofs.Texts.ClassesOfCharacters.{class-char}
 use Rattle.jzon.proofs.Texts.AsciiRuns.{chars-ascii, IsUtf8-past_ascii, stops_run}
 use Rattle.jzon.proofs.Texts.StepsByByte.{digit_is_ascii, next_is, byte_there}
-use Rattle.jzon.proofs.Numbers.NumeralOutcomes.{NextFails, stop_lettered, stop_signed, unsigned_to_end, signed_to_end}
+use Rattle.jzon.proofs.Numbers.NumeralOutcomes.{NextFails, stop_after_letter, stop_signed, unsigned_to_end, signed_to_end}
 
 -- ---- one byte
 
@@ -103,11 +103,11 @@ pub record ReadsExponent (bs : List ℕ) (i : ℕ) (positive : Bool) (xs : List 
   pub boundary : IsCharBoundary bs e
   pub all : All IsDigit xs
   pub number : 0 < length xs → (r : Reading) (fs : Frames) (negative : Bool) (ws ds : List ℕ) (l : ℕ)
-      → from r bs (numeral fs negative (lettered ws ds l)) i
+      → from r bs (numeral fs negative (after_letter ws ds l)) i
       ≡ from r bs
       (after_value fs (value.number (read_number (not negative) ws ds (signed positive (digits_number xs))))) e
   pub missing : length xs ≡ 0 → (r : Reading) (fs : Frames) (negative : Bool) (ws ds : List ℕ) (l : ℕ)
-      → from r bs (numeral fs negative (lettered ws ds l)) i ≡ fault_here (chars (drop e bs))
+      → from r bs (numeral fs negative (after_letter ws ds l)) i ≡ fault_here (chars (drop e bs))
 
 pub some_digits : (ds : List ℕ) → AreDigits ds → 0 < length ds → IsDigits ds
 some_digits [] ok some = absurd (omega arith)
@@ -127,13 +127,13 @@ reads_unsigned bs i xs u at no_minus no_plus e =
       after = omega arith;
       boundary = k.boundary;
       all = k.all;
-      number = λ some r fs negative ws ds l. ap (λ cs. outcome r cs (numeral fs negative (lettered ws ds l))) k.split
+      number = λ some r fs negative ws ds l. ap (λ cs. outcome r cs (numeral fs negative (after_letter ws ds l))) k.split
           ∙ unsigned_to_end r fs negative ws ds l xs (chars (drop (i + length xs) bs)) (some_digits xs k.digits some)
           k.next;
       missing = λ none r fs negative ws ds l.
           let here : chars (drop i bs) ≡ chars (drop (i + length xs) bs) = k.split
           ∙ no_digits xs (chars (drop (i + length xs) bs)) none in
-          stop_lettered r fs negative ws ds l (chars (drop i bs)) (subst (NextFails is_ascii_digit) (sym here) k.next)
+          stop_after_letter r fs negative ws ds l (chars (drop i bs)) (subst (NextFails is_ascii_digit) (sym here) k.next)
           (next_fails (λ c. c == 43) bs i (λ c e. omega (arith, eqb-true c 43 e)) u at
           (λ lt. ne_eqb (get_or bs i 0) 43 (λ same. no_plus (lt, same))))
           (next_fails (λ c. c == 45) bs i (λ c e. omega (arith, eqb-true c 45 e)) u at
@@ -146,7 +146,7 @@ reads_signed : (bs : List ℕ) (i : ℕ) (xs : List ℕ) (s : Sign) (b : ℕ) (p
     → IsCharBoundary bs i → i < length bs
     → get_or bs i 0 ≡ b → b < 128 → ((ws ds : List ℕ) (l : ℕ) (cs : List ℕ) (r : Reading) (fs : Frames)
     (negative : Bool)
-    → outcome r (b ∷ cs) (numeral fs negative (lettered ws ds l))
+    → outcome r (b ∷ cs) (numeral fs negative (after_letter ws ds l))
     ≡ outcome r cs (numeral fs negative (signed_exponent ws ds l s)))
     → ((n : ℕ) → signed positive n ≡ meaning.signed_exponent s n)
     → xs ≡ take_while is_ascii_digit (drop (i + 1) bs) → ReadsExponent bs i positive xs (i + 1 + length xs)
@@ -156,9 +156,9 @@ reads_signed bs i xs s b positive u at lt here ascii step sign e =
     let k = digits_stand bs (i + 1) xs u next_at e in
     let rest = chars (drop (i + 1 + length xs) bs) in
     let to_sign : (r : Reading) (fs : Frames) (negative : Bool) (ws ds : List ℕ) (l : ℕ)
-    → outcome r (chars (drop i bs)) (numeral fs negative (lettered ws ds l))
+    → outcome r (chars (drop i bs)) (numeral fs negative (after_letter ws ds l))
     ≡ outcome r (xs ++ rest) (numeral fs negative (signed_exponent ws ds l s)) =
-    λ r fs negative ws ds l. ap (λ cs. outcome r cs (numeral fs negative (lettered ws ds l)))
+    λ r fs negative ws ds l. ap (λ cs. outcome r cs (numeral fs negative (after_letter ws ds l)))
     (next_is bs i b u at lt here ascii ∙ ap (λ cs. b ∷ cs) k.split)
     ∙ step ws ds l (xs ++ rest) r fs negative in
     record {

@@ -8,7 +8,7 @@ use Rattle.jzon.specs.Grammar.{Sign, unsigned, AreDigits, IsDigits, is_exponent_
 use Rattle.jzon.specs.Spelling.{digit, onto}
 use Rattle.jzon.specs.Fault.{limit}
 use Rattle.jzon.specs.Private.Classes.{Class, digits, minus_char, plus_char, point, letter_e, class_of, NumberState}
-use Rattle.jzon.specs.Private.Classes.{zero_read, whole, pointed, fraction, lettered, signed_exponent, exponent}
+use Rattle.jzon.specs.Private.Classes.{zero_read, whole, pointed, fraction, after_letter, signed_exponent, exponent}
 use Rattle.jzon.specs.Private.Classes.{after_first_digit}
 use Rattle.jzon.specs.Private.Machine.{Frames, State, numeral, after_value, Move, bad, move, move_after_value, Outcome}
 use Rattle.jzon.specs.Private.Machine.{move_after_whole, move_numeral, number_value, exponent_of, last, meant_at}
@@ -53,17 +53,17 @@ module _ (r : Reading) (fs : Frames) (negative : Bool) where
   stop_pointed ws [] h = refl
   stop_pointed ws (c ∷ cs) h = by_move c cs _ bad (pointed_stops _ ws c (no_digit r.strict c h))
 
-  lettered_stops : (k : Class) (ws ds : List ℕ) (l c : ℕ) → (k ≡ digits → ⊥) → (k ≡ plus_char → ⊥)
-      → (k ≡ minus_char → ⊥) → move_numeral (lettered ws ds l) k fs negative c ≡ bad
-  lettered_stops digits ws ds l c fails no_cross no_dash = absurd (fails refl)
-  lettered_stops plus_char ws ds l c fails no_cross no_dash = absurd (no_cross refl)
-  lettered_stops minus_char ws ds l c fails no_cross no_dash = absurd (no_dash refl)
-  lettered_stops k ws ds l c fails no_cross no_dash = refl
+  after_letter_stops : (k : Class) (ws ds : List ℕ) (l c : ℕ) → (k ≡ digits → ⊥) → (k ≡ plus_char → ⊥)
+      → (k ≡ minus_char → ⊥) → move_numeral (after_letter ws ds l) k fs negative c ≡ bad
+  after_letter_stops digits ws ds l c fails no_cross no_dash = absurd (fails refl)
+  after_letter_stops plus_char ws ds l c fails no_cross no_dash = absurd (no_cross refl)
+  after_letter_stops minus_char ws ds l c fails no_cross no_dash = absurd (no_dash refl)
+  after_letter_stops k ws ds l c fails no_cross no_dash = refl
 
-  pub stop_lettered : (ws ds : List ℕ) (l : ℕ) (cs : List ℕ) → NextFails is_ascii_digit cs
-      → NextFails (λ c. c == 43) cs → NextFails (λ c. c == 45) cs → outcome r cs (N (lettered ws ds l)) ≡ fault_here cs
-  stop_lettered ws ds l [] h p m = refl
-  stop_lettered ws ds l (c ∷ cs) h p m = by_move c cs _ bad (lettered_stops _ ws ds l c (no_digit r.strict c h)
+  pub stop_after_letter : (ws ds : List ℕ) (l : ℕ) (cs : List ℕ) → NextFails is_ascii_digit cs
+      → NextFails (λ c. c == 43) cs → NextFails (λ c. c == 45) cs → outcome r cs (N (after_letter ws ds l)) ≡ fault_here cs
+  stop_after_letter ws ds l [] h p m = refl
+  stop_after_letter ws ds l (c ∷ cs) h p m = by_move c cs _ bad (after_letter_stops _ ws ds l c (no_digit r.strict c h)
       (λ e. eqb-false c 43 p (class-says r.strict c e)) (λ e. eqb-false c 45 m (class-says r.strict c e)))
 
   signed_stops : (k : Class) (ws ds : List ℕ) (l : ℕ) (s : Sign) (c : ℕ) → (k ≡ digits → ⊥)
@@ -154,7 +154,7 @@ module _ (r : Reading) (fs : Frames) (negative : Bool) where
         ∙ ap (λ k. move_after_whole k fs negative ws 46) (class-char r.strict point))
 
     pub whole_to_letter : (l : ℕ) (rest : List ℕ) → ReadsWhole r d ws cs (l ∷ rest) → dropped ws [] < 32768
-        → IsTrue (is_exponent_letter l) → first ≡ outcome r rest (N r fs negative (lettered ws [] l))
+        → IsTrue (is_exponent_letter l) → first ≡ outcome r rest (N r fs negative (after_letter ws [] l))
     whole_to_letter l rest h few letter =
         h.reads fs negative [] few ∙ by_move r fs negative l rest _ _ ((h.is_after fs negative).moves l h.next
         ∙ ap (λ k. move_after_whole k fs negative ws l) (letter_e-class r.strict l letter))
@@ -203,12 +203,12 @@ module _ (r : Reading) (fs : Frames) (negative : Bool) where
 
   pub fraction_to_letter : (l : ℕ) (ws ds rest : List ℕ) → IsDigits ds → kept_fraction ws ds < 32769
       → IsTrue (is_exponent_letter l)
-      → outcome r (ds ++ l ∷ rest) (N r fs negative (pointed ws)) ≡ outcome r rest (N r fs negative (lettered ws ds l))
+      → outcome r (ds ++ l ∷ rest) (N r fs negative (pointed ws)) ≡ outcome r rest (N r fs negative (after_letter ws ds l))
   fraction_to_letter l ws ds rest ok few letter =
       read_fraction r fs negative ws ds (l ∷ rest) ok few
       ∙ by_move r fs negative l rest _ _
       (ap (λ k. move_numeral (fraction ws (onto ds [])) k fs negative l) (letter_e-class r.strict l letter))
-      ∙ ap (λ xs. outcome r rest (N r fs negative (lettered ws xs l))) (same_order ds)
+      ∙ ap (λ xs. outcome r rest (N r fs negative (after_letter ws xs l))) (same_order ds)
 
   -- ---- exponent digits
 
@@ -233,7 +233,7 @@ module _ (r : Reading) (fs : Frames) (negative : Bool) where
       ∙ ap (λ ys. outcome r rest (V r fs negative ws ds (exponent_of l s ys))) (same_order xs)
 
   pub unsigned_to_end : (ws ds : List ℕ) (l : ℕ) (xs rest : List ℕ) → IsDigits xs → NextFails is_ascii_digit rest
-      → outcome r (xs ++ rest) (N r fs negative (lettered ws ds l))
+      → outcome r (xs ++ rest) (N r fs negative (after_letter ws ds l))
       ≡ outcome r rest (V r fs negative ws ds (exponent_of l unsigned xs))
   unsigned_to_end ws ds l xs rest ok stop =
       read_unsigned_exponent r fs negative ws ds l xs rest ok ∙ collected_to_end ws ds l unsigned xs rest stop

@@ -11,7 +11,7 @@ use Rattle.jzon.specs.Grammar.{IsNumeral}
 use Rattle.jzon.specs.Spelling.{onto}
 use Rattle.jzon.specs.Meaning.{number_of}
 use Rattle.jzon.specs.Private.Classes.{Class, digits, minus_char, plus_char, point, letter_e, class_of, NumberState}
-use Rattle.jzon.specs.Private.Classes.{after_minus, zero_read, whole, pointed, fraction, lettered, signed_exponent}
+use Rattle.jzon.specs.Private.Classes.{after_minus, zero_read, whole, pointed, fraction, after_letter, signed_exponent}
 use Rattle.jzon.specs.Private.Classes.{exponent, after_first_digit}
 use Rattle.jzon.specs.Private.Machine.{Frames, numeral, number_value, exponent_of, move_after_value, meant_at}
 use Rattle.jzon.specs.Private.Machine.{move_after_whole, move_numeral, last_numeral, meant}
@@ -46,7 +46,7 @@ module _ (r : Reading) (v : Value) (fs : Frames) (Beh : Value → List ℕ → T
       × (t ≡ es ++ exponent_chars x u) × B negative ws es x u
   InNumeral negative (fraction ws ds) t = (es : List ℕ) × (x : Option Exponent) × (u : List ℕ) × AreDigits es
       × IsExponent x × (t ≡ es ++ exponent_chars x u) × B negative ws (onto ds es) x u
-  InNumeral negative (lettered ws ds l) t = (s : Sign) × (es : List ℕ) × (u : List ℕ) × IsDigits es
+  InNumeral negative (after_letter ws ds l) t = (s : Sign) × (es : List ℕ) × (u : List ℕ) × IsDigits es
       × (t ≡ sign_chars s (es ++ u)) × B negative ws ds (exponent_of l s es) u
   InNumeral negative (signed_exponent ws ds l s) t = (es : List ℕ) × (u : List ℕ) × IsDigits es × (t ≡ es ++ u)
       × B negative ws ds (exponent_of l s es) u
@@ -100,7 +100,7 @@ module _ (r : Reading) (v : Value) (fs : Frames) (Beh : Value → List ℕ → T
     signed_on _ negative ws ds l s e h = absurd h
 
     letter_on : (k : Class) (negative : Bool) (ws ds : List ℕ) (l : ℕ) → class_of r.strict c ≡ k
-        → C k negative (lettered ws ds l) → InNumeral negative (lettered ws ds l) (c ∷ cs)
+        → C k negative (after_letter ws ds l) → InNumeral negative (after_letter ws ds l) (c ∷ cs)
     letter_on digits negative ws ds l e h =
         let g = ih negative (exponent ws ds l unsigned (c ∷ [])) h in
         (unsigned, c ∷ g.0, g.1, (class-says r.strict c e, g.2), ap (λ z. c ∷ z) g.3, g.4)
@@ -114,10 +114,10 @@ module _ (r : Reading) (v : Value) (fs : Frames) (Beh : Value → List ℕ → T
 
     -- the letter of an exponent
     exponent_part : (negative : Bool) (ws ds : List ℕ) → class_of r.strict c ≡ letter_e
-        → Goes r v cs (numeral fs negative (lettered ws ds c))
+        → Goes r v cs (numeral fs negative (after_letter ws ds c))
         → (x : Option Exponent) × (u : List ℕ) × IsExponent x × (c ∷ cs ≡ exponent_chars x u) × B negative ws ds x u
     exponent_part negative ws ds e h =
-        let g = ih negative (lettered ws ds c) h in
+        let g = ih negative (after_letter ws ds c) h in
         (exponent_of c g.0 g.1, g.2, (class-says r.strict c e, g.3), ap (λ z. c ∷ z) g.4, g.5)
 
     fraction_on : (k : Class) (negative : Bool) (ws ds : List ℕ) → class_of r.strict c ≡ k → After k
@@ -172,7 +172,7 @@ module _ (r : Reading) (v : Value) (fs : Frames) (Beh : Value → List ℕ → T
     number_on (whole ds) k negative e b h = whole_on k negative ds e b h
     number_on (pointed ws) k negative e b h = point_on k negative ws e h
     number_on (fraction ws ds) k negative e b h = fraction_on k negative ws ds e b h
-    number_on (lettered ws ds l) k negative e b h = letter_on k negative ws ds l e h
+    number_on (after_letter ws ds l) k negative e b h = letter_on k negative ws ds l e h
     number_on (signed_exponent ws ds l s) k negative e b h = signed_on k negative ws ds l s e h
     number_on (exponent ws ds l s xs) k negative e b h = exponent_on k negative ws ds l s xs e b h
 

@@ -10,7 +10,7 @@ use Rattle.jzon.specs.Spelling.{duplicate, breach_if}
 use Rattle.jzon.specs.Fault.{limit}
 use Rattle.jzon.specs.Private.Quote.{EndsAtQuote}
 use Rattle.jzon.specs.Private.Machine.{EntriesSoFar, Frames, Role, as_key, after_key, go, refused, string, between}
-use Rattle.jzon.specs.Private.Machine.{slash, closed_string, bad, move_between, outcome_on, from, from_closed, left_at}
+use Rattle.jzon.specs.Private.Machine.{after_backslash, closed_string, bad, move_between, outcome_on, from, from_closed, left_at}
 use Rattle.jzon.specs.Private.Machine.{fault_here}
 use Rattle.jzon.proofs.Strings.StringSteps.{byte_moves, byte_stops}
 
@@ -36,7 +36,7 @@ quote_ends bs i u at here =
 -- a backslash begins an escape
 pub backslash_begins : (r : Reading) (role : Role) (xs bs : List ℕ) (i : ℕ) → IsUtf8 bs → IsCharBoundary bs i
     → i < length bs → get_or bs i 0 ≡ 92
-    → from r bs (string role xs between) i ≡ from r bs (string role xs slash) (i + 1)
+    → from r bs (string role xs between) i ≡ from r bs (string role xs after_backslash) (i + 1)
 backslash_begins r role xs bs i u at lt e = byte_moves r (string role xs between) bs i 92 u at lt e (omega arith)
 
 -- with another byte that isn't plain, or none, no text goes on
@@ -44,8 +44,8 @@ no_quote : (r : Reading) (role : Role) (xs : List ℕ) (c left : ℕ) → is_pla
     → (c ≡ 92 → ⊥) → move_between r role xs c left ≡ bad
 no_quote r role xs c left h no34 no92 =
     let quote : (c == 34) ≡ false = grind (arith, nat_tests) in
-    let slash : (c == 92) ≡ false = grind (arith, nat_tests) in
-    let other : is_unescaped c ≡ false = grind (arith, nat_tests) in rw (other, quote, slash) refl
+    let after_backslash : (c == 92) ≡ false = grind (arith, nat_tests) in
+    let other : is_unescaped c ≡ false = grind (arith, nat_tests) in rw (other, quote, after_backslash) refl
 
 pub string_stops : (r : Reading) (role : Role) (xs bs : List ℕ) (i : ℕ) → IsUtf8 bs → IsCharBoundary bs i
     → (i < length bs → is_plain (get_or bs i 0) ≡ false) → (i < length bs → get_or bs i 0 ≡ 92 → ⊥)

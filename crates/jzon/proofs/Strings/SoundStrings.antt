@@ -10,7 +10,7 @@ use Rattle.jzon.specs.Grammar.{Item, simple, single, double, AreHex, AreItems, I
 use Rattle.jzon.specs.Grammar.{is_low, is_unescaped, is_simple}
 use Rattle.jzon.specs.Grammar as grammar
 use Rattle.jzon.specs.Meaning.{item_text, bytes_of, pair_char, unescaped}
-use Rattle.jzon.specs.Private.Machine.{Role, StringState, between, slash, code, second, second_slash, second_code}
+use Rattle.jzon.specs.Private.Machine.{Role, StringState, between, after_backslash, code, second, second_backslash, second_code}
 use Rattle.jzon.specs.Private.Machine.{string, go, bad, closed_string, after_unit, move_pair, add_hex, move_code}
 use Rattle.jzon.specs.Private.Machine.{move_second_code}
 use Rattle.jzon.proofs.Texts.Runs.{On, Goes}
@@ -53,10 +53,10 @@ module _ (r : Reading) (v : Value) (role : Role) (Closed : List ℕ → List ℕ
 
   abbrev pub Left : StringState → List ℕ → List ℕ → Type 0
   Left between bs t = ItemsLeft bs t
-  Left slash bs t = Slash bs t
+  Left after_backslash bs t = Slash bs t
   Left (code n u) bs t = Code bs n u t
   Left (second w) bs t = Second bs w t
-  Left (second_slash w) bs t = SecondSlash bs w t
+  Left (second_backslash w) bs t = SecondSlash bs w t
   Left (second_code w n u) bs t = SecondCode bs w n u t
 
   -- ---- one more item
@@ -89,23 +89,23 @@ module _ (r : Reading) (v : Value) (role : Role) (Closed : List ℕ → List ℕ
   Closing cs = (bs : List ℕ) → On (closed_string r role bs (suc (length cs))) (λ p. Goes r v cs p) → Closed bs cs
 
   between_on : (a b d : Bool) (bs : List ℕ) (c : ℕ) (cs : List ℕ) → c == 34 ≡ a → c == 92 ≡ b → is_unescaped c ≡ d
-      → On (cond a (closed_string r role bs (suc (length cs))) (cond b (go None (string role bs slash))
+      → On (cond a (closed_string r role bs (suc (length cs))) (cond b (go None (string role bs after_backslash))
       (cond d (go None (string role (bs ++ encode_utf8 c) between)) bad))) (λ p. Goes r v cs p)
       → Rest cs → Closing cs → ItemsLeft bs (c ∷ cs)
   between_on true b d bs c cs e f g h ih after =
       ([], cs, tt, rw (eqb-true c 34 e) refl, subst (λ z. Closed z cs) (sym (bytes-none bs)) (after bs h))
   between_on false true d bs c cs e f g h ih after =
-      subst (λ z. ItemsLeft bs (z ∷ cs)) (sym (eqb-true c 92 f)) (escaped bs cs (ih slash bs h))
+      subst (λ z. ItemsLeft bs (z ∷ cs)) (sym (eqb-true c 92 f)) (escaped bs cs (ih after_backslash bs h))
   between_on false false true bs c cs e f g h ih after = char_more (grammar.plain c) c bs cs g refl (ih between _ h)
   between_on false false false bs c cs e f g h ih after = absurd h
 
-  slash_on : (a b : Bool) (bs : List ℕ) (c : ℕ) (cs : List ℕ) → c == 117 ≡ a → is_simple c ≡ b
+  after_backslash_on : (a b : Bool) (bs : List ℕ) (c : ℕ) (cs : List ℕ) → c == 117 ≡ a → is_simple c ≡ b
       → On (cond a (go None (string role bs (code 3 0)))
       (cond b (go None (string role (bs ++ encode_utf8 (unescaped c)) between)) bad))
       (λ p. Goes r v cs p) → Rest cs → Slash bs (c ∷ cs)
-  slash_on true b bs c cs e f h ih = inr (cs, ap (λ z. z ∷ cs) (eqb-true c 117 e), ih (code 3 0) bs h)
-  slash_on false true bs c cs e f h ih = inl (c, cs, f, refl, ih between _ h)
-  slash_on false false bs c cs e f h ih = absurd h
+  after_backslash_on true b bs c cs e f h ih = inr (cs, ap (λ z. z ∷ cs) (eqb-true c 117 e), ih (code 3 0) bs h)
+  after_backslash_on false true bs c cs e f h ih = inl (c, cs, f, refl, ih between _ h)
+  after_backslash_on false false bs c cs e f h ih = absurd h
 
   coded_on : (a : Bool) (w : ℕ) (bs cs : List ℕ) → is_surrogate w ≡ a → Goes r v cs (after_unit a role bs w) → Rest cs
       → Coded bs w cs
@@ -121,16 +121,16 @@ module _ (r : Reading) (v : Value) (role : Role) (Closed : List ℕ → List ℕ
   code_on false n u bs c cs e h ih = absurd h
 
   second_on : (a : Bool) (w : ℕ) (bs : List ℕ) (c : ℕ) (cs : List ℕ) → c == 92 ≡ a
-      → On (cond a (go None (string role bs (second_slash w))) bad) (λ p. Goes r v cs p)
+      → On (cond a (go None (string role bs (second_backslash w))) bad) (λ p. Goes r v cs p)
       → Rest cs → Second bs w (c ∷ cs)
-  second_on true w bs c cs e h ih = (cs, ap (λ z. z ∷ cs) (eqb-true c 92 e), ih (second_slash w) bs h)
+  second_on true w bs c cs e h ih = (cs, ap (λ z. z ∷ cs) (eqb-true c 92 e), ih (second_backslash w) bs h)
   second_on false w bs c cs e h ih = absurd h
 
-  second_slash_on : (a : Bool) (w : ℕ) (bs : List ℕ) (c : ℕ) (cs : List ℕ) → c == 117 ≡ a
+  second_backslash_on : (a : Bool) (w : ℕ) (bs : List ℕ) (c : ℕ) (cs : List ℕ) → c == 117 ≡ a
       → On (cond a (go None (string role bs (second_code w 3 0))) bad) (λ p. Goes r v cs p)
       → Rest cs → SecondSlash bs w (c ∷ cs)
-  second_slash_on true w bs c cs e h ih = (cs, ap (λ z. z ∷ cs) (eqb-true c 117 e), ih (second_code w 3 0) bs h)
-  second_slash_on false w bs c cs e h ih = absurd h
+  second_backslash_on true w bs c cs e h ih = (cs, ap (λ z. z ∷ cs) (eqb-true c 117 e), ih (second_code w 3 0) bs h)
+  second_backslash_on false w bs c cs e h ih = absurd h
 
   paired_on : (a : Bool) (w u : ℕ) (bs cs : List ℕ) → On (move_pair a role bs w u) (λ p. Goes r v cs p) → Rest cs
       → ItemsLeft (bs ++ encode_utf8_all (if a then pair_char w u ∷ [] else [])) cs
@@ -149,8 +149,8 @@ module _ (r : Reading) (v : Value) (role : Role) (Closed : List ℕ → List ℕ
       → Left x bs (c ∷ cs)
   string_on between bs c cs h ih after =
       between_on (c == 34) (c == 92) (is_unescaped c) bs c cs refl refl refl h ih after
-  string_on slash bs c cs h ih after = slash_on (c == 117) (is_simple c) bs c cs refl refl h ih
+  string_on after_backslash bs c cs h ih after = after_backslash_on (c == 117) (is_simple c) bs c cs refl refl h ih
   string_on (code n u) bs c cs h ih after = code_on (is_ascii_hexdigit c) n u bs c cs refl h ih
   string_on (second w) bs c cs h ih after = second_on (c == 92) w bs c cs refl h ih
-  string_on (second_slash w) bs c cs h ih after = second_slash_on (c == 117) w bs c cs refl h ih
+  string_on (second_backslash w) bs c cs h ih after = second_backslash_on (c == 117) w bs c cs refl h ih
   string_on (second_code w n u) bs c cs h ih after = second_code_on (is_ascii_hexdigit c) w n u bs c cs refl h ih

@@ -14,9 +14,9 @@ use Rattle.jzon.specs.Spelling.{Breach, deep, pair, digit, breach_if, onto}
 use Rattle.jzon.specs.Private.Classes.{Class, whitespace, digits, minus_char, plus_char, point, letter_e, quote}
 use Rattle.jzon.specs.Private.Classes.{opens_array, closes_array, opens_object, closes_object, comma, colon}
 use Rattle.jzon.specs.Private.Classes.{begins_null, begins_true, begins_false, class_of, NumberState, after_minus}
-use Rattle.jzon.specs.Private.Classes.{zero_read, whole, pointed, fraction, lettered, signed_exponent, exponent}
+use Rattle.jzon.specs.Private.Classes.{zero_read, whole, pointed, fraction, after_letter, signed_exponent, exponent}
 use Rattle.jzon.specs.Private.Machine.{EntriesSoFar, Frames, array_frame, object_frame, Role, as_value, as_key, StringState}
-use Rattle.jzon.specs.Private.Machine.{between, slash, code, second, second_slash, second_code, State, before}
+use Rattle.jzon.specs.Private.Machine.{between, after_backslash, code, second, second_backslash, second_code, State, before}
 use Rattle.jzon.specs.Private.Machine.{before_key, word, numeral, string, after_key, after_value, Move, go, bad}
 use Rattle.jzon.specs.Private.Machine.{bad_deep, move, value_mark, key_mark, last, frames_depth, bad_at}
 use Rattle.jzon.specs.Private.Machine.{move_empty_array, move_before, move_empty_object, move_before_key}
@@ -175,10 +175,10 @@ numeral_reports (pointed ws) digits fs negative c = (digit_mark _, tt)
 numeral_reports (pointed ws) _ fs negative c = shut
 numeral_reports (fraction ws ds) digits fs negative c = (digit_mark _, tt)
 numeral_reports (fraction ws ds) class fs negative c = fraction_reports class fs negative ws (onto ds []) c
-numeral_reports (lettered ws ds l) digits fs negative c = (unmarked _, tt)
-numeral_reports (lettered ws ds l) plus_char fs negative c = (unmarked _, tt)
-numeral_reports (lettered ws ds l) minus_char fs negative c = (unmarked _, tt)
-numeral_reports (lettered ws ds l) _ fs negative c = shut
+numeral_reports (after_letter ws ds l) digits fs negative c = (unmarked _, tt)
+numeral_reports (after_letter ws ds l) plus_char fs negative c = (unmarked _, tt)
+numeral_reports (after_letter ws ds l) minus_char fs negative c = (unmarked _, tt)
+numeral_reports (after_letter ws ds l) _ fs negative c = shut
 numeral_reports (signed_exponent ws ds l s) digits fs negative c = (unmarked _, tt)
 numeral_reports (signed_exponent ws ds l s) _ fs negative c = shut
 numeral_reports (exponent ws ds l s xs) digits fs negative c = (unmarked _, tt)
@@ -218,12 +218,12 @@ module _ (r : Reading) (Both : Move → Move → Type 0) (one two : Role) (fails
   string_both between bs c i j h =
       by_test (c == 34) _ _ _ _ h (by_test (c == 92) _ _ _ _ (inside None shut bs _)
       (by_test (is_unescaped c) _ _ _ _ (inside None shut _ between) fails))
-  string_both slash bs c i j h =
+  string_both after_backslash bs c i j h =
       by_test (c == 117) _ _ _ _ (inside None shut bs _)
       (by_test (is_simple c) _ _ _ _ (inside None shut _ between) fails)
   string_both (code n u) bs c i j h = by_test (is_ascii_hexdigit c) _ _ _ _ (code_both bs n u c) fails
   string_both (second u) bs c i j h = by_test (c == 92) _ _ _ _ (inside None shut bs _) fails
-  string_both (second_slash u) bs c i j h = by_test (c == 117) _ _ _ _ (inside None shut bs _) fails
+  string_both (second_backslash u) bs c i j h = by_test (c == 117) _ _ _ _ (inside None shut bs _) fails
   string_both (second_code u n v) bs c i j h = by_test (is_ascii_hexdigit c) _ _ _ _ (second_both bs u n v c) fails
 
 -- K holds of each state inside the string and after it

@@ -7,11 +7,11 @@ use Rattle.jzon_tree.specs.Value as value
 use Rattle.jzon_tree.specs.Value.{Value, values_of, pairs_of, kind_of}
 use Rattle.jzon.specs.Reading.{Reading}
 use Rattle.jzon.specs.Grammar.{is_surrogate, is_high, is_low, unsigned}
-use Rattle.jzon.specs.Private.Classes.{NumberState, after_minus, zero_read, whole, pointed, fraction, lettered}
+use Rattle.jzon.specs.Private.Classes.{NumberState, after_minus, zero_read, whole, pointed, fraction, after_letter}
 use Rattle.jzon.specs.Private.Classes.{signed_exponent, exponent, digits, closes_array, closes_object, quote, colon}
 use Rattle.jzon.specs.Private.Classes.{begins_null}
 use Rattle.jzon.specs.Private.Machine.{Frames, no_frames, array_frame, object_frame, Role, as_value, as_key}
-use Rattle.jzon.specs.Private.Machine.{StringState, between, slash, code, second, second_slash, second_code, State}
+use Rattle.jzon.specs.Private.Machine.{StringState, between, after_backslash, code, second, second_backslash, second_code, State}
 use Rattle.jzon.specs.Private.Machine.{before, before_key, word, numeral, string, after_key, after_value, add_hex}
 use Rattle.jzon.specs.Private.Machine.{EntriesSoFar, go, last_numeral, meant_at, move_numeral, move_after_value, move_pair}
 use Rattle.jzon.specs.Private.Machine.{after_unit, past_letter}
@@ -26,7 +26,7 @@ brackets (object_frame fs es k) = 125 ∷ brackets fs
 abbrev pub digit_closer : NumberState → List ℕ → List ℕ
 digit_closer after_minus t = 48 ∷ t
 digit_closer (pointed ws) t = 48 ∷ t
-digit_closer (lettered ws ds l) t = 48 ∷ t
+digit_closer (after_letter ws ds l) t = 48 ∷ t
 digit_closer (signed_exponent ws ds l s) t = 48 ∷ t
 digit_closer _ t = t
 
@@ -46,10 +46,10 @@ surrogate_closer false t = t
 
 abbrev pub item_closer : StringState → List ℕ → List ℕ
 item_closer between t = t
-item_closer slash t = 110 ∷ t
+item_closer after_backslash t = 110 ∷ t
 item_closer (code n u) t = zeros (suc n) (surrogate_closer (is_surrogate (with_zeros (suc n) u)) t)
 item_closer (second u) t = codes "\\u0000" ++ t
-item_closer (second_slash u) t = codes "u0000" ++ t
+item_closer (second_backslash u) t = codes "u0000" ++ t
 item_closer (second_code u n v) t = zeros (suc n) t
 
 abbrev pub role_closer : Role → List ℕ
@@ -119,9 +119,9 @@ module _ (r : Reading) where
       (let x : NumberState = fraction ws (48 ∷ []) in
       let h = ends_number fs negative x _ refl refl refl in (h.0, rw (digits-class r.strict 48 refl) h.1))
   ends_numeral fs negative (fraction ws ds) = ends_number fs negative (fraction ws ds) _ refl refl refl
-  ends_numeral fs negative (lettered ws ds l) =
+  ends_numeral fs negative (after_letter ws ds l) =
       let x : NumberState = exponent ws ds l unsigned (48 ∷ []) in
-      ends_zero fs negative (lettered ws ds l) (numeral fs negative x) refl (ends_number fs negative x _ refl refl refl)
+      ends_zero fs negative (after_letter ws ds l) (numeral fs negative x) refl (ends_number fs negative x _ refl refl refl)
   ends_numeral fs negative (signed_exponent ws ds l s) =
       let x : NumberState = exponent ws ds l s (48 ∷ []) in
       ends_zero fs negative (signed_exponent ws ds l s) (numeral fs negative x) refl
@@ -157,10 +157,10 @@ module _ (r : Reading) where
   ends_string : (x : StringState) (role : Role) (bs : List ℕ)
       → Ends (item_closer x (34 ∷ role_closer role)) (string role bs x)
   ends_string between role bs = ends_between role bs
-  ends_string slash role bs = ends_between role _
+  ends_string after_backslash role bs = ends_between role _
   ends_string (code n u) role bs = ends_code role bs n u
   ends_string (second w) role bs = ends_second_code role bs w 3 0
-  ends_string (second_slash w) role bs = ends_second_code role bs w 3 0
+  ends_string (second_backslash w) role bs = ends_second_code role bs w 3 0
   ends_string (second_code w n u) role bs = ends_second_code role bs w n u
 
   -- ---- literals

@@ -66,7 +66,7 @@ pub data NumberState : Type 0 where
   pointed : List ℕ → NumberState
   fraction : List ℕ → List ℕ → NumberState
   -- after the letter of an exponent, with the digits before it
-  lettered : List ℕ → List ℕ → ℕ → NumberState
+  after_letter : List ℕ → List ℕ → ℕ → NumberState
   signed_exponent : List ℕ → List ℕ → ℕ → Sign → NumberState
   exponent : List ℕ → List ℕ → ℕ → Sign → List ℕ → NumberState
 

@@ -21,7 +21,7 @@ use Rattle.jzon.specs.Fault.{Fault, limit, character, error_at}
 use Rattle.jzon.specs.Private.Classes.{Class, whitespace, digits, minus_char, plus_char, point, letter_e, quote}
 use Rattle.jzon.specs.Private.Classes.{opens_array, closes_array, opens_object, closes_object, comma, colon}
 use Rattle.jzon.specs.Private.Classes.{begins_null, begins_true, begins_false, class_of, NumberState, after_minus}
-use Rattle.jzon.specs.Private.Classes.{zero_read, whole, pointed, fraction, lettered, signed_exponent, exponent}
+use Rattle.jzon.specs.Private.Classes.{zero_read, whole, pointed, fraction, after_letter, signed_exponent, exponent}
 use Rattle.jzon.specs.Private.Classes.{after_first_digit}
 use Rattle.jzon.specs.Private.Stops.{IsAtBoundary, reported_error}
 use Rattle.jzon.specs.declared.fault.Stop.{Stop}
@@ -46,10 +46,10 @@ pub data Role : Type 0 where
 -- next one.
 pub data StringState : Type 0 where
   between : StringState
-  slash : StringState
+  after_backslash : StringState
   code : ℕ → ℕ → StringState
   second : ℕ → StringState
-  second_slash : ℕ → StringState
+  second_backslash : ℕ → StringState
   second_code : ℕ → ℕ → ℕ → StringState
 
 pub data State : Type 0 where
@@ -172,11 +172,11 @@ exponent_of l s ds = Some (record { letter = l; sign = s; digits = ds })
 
 abbrev pub move_after_whole : Class → Frames → Bool → List ℕ → ℕ → Move
 move_after_whole point fs negative ws c = go None (numeral fs negative (pointed ws))
-move_after_whole letter_e fs negative ws c = go None (numeral fs negative (lettered ws [] c))
+move_after_whole letter_e fs negative ws c = go None (numeral fs negative (after_letter ws [] c))
 move_after_whole class fs negative ws c = move_after_value class fs (number_value negative ws [] None)
 
 abbrev pub move_after_fraction : Class → Frames → Bool → List ℕ → List ℕ → ℕ → Move
-move_after_fraction letter_e fs negative ws ds c = go None (numeral fs negative (lettered ws ds c))
+move_after_fraction letter_e fs negative ws ds c = go None (numeral fs negative (after_letter ws ds c))
 move_after_fraction class fs negative ws ds c = move_after_value class fs (number_value negative ws ds None)
 
 abbrev pub move_numeral : NumberState → Class → Frames → Bool → ℕ → Move
@@ -192,11 +192,11 @@ move_numeral (pointed ws) _ fs negative c = bad
 move_numeral (fraction ws ds) digits fs negative c =
     go (breach_if (keeps_too_many ws (onto (c ∷ ds) [])) digit) (numeral fs negative (fraction ws (c ∷ ds)))
 move_numeral (fraction ws ds) class fs negative c = move_after_fraction class fs negative ws (onto ds []) c
-move_numeral (lettered ws ds l) digits fs negative c = go None
+move_numeral (after_letter ws ds l) digits fs negative c = go None
     (numeral fs negative (exponent ws ds l unsigned (c ∷ [])))
-move_numeral (lettered ws ds l) plus_char fs negative c = go None (numeral fs negative (signed_exponent ws ds l plus))
-move_numeral (lettered ws ds l) minus_char fs negative c = go None (numeral fs negative (signed_exponent ws ds l minus))
-move_numeral (lettered ws ds l) _ fs negative c = bad
+move_numeral (after_letter ws ds l) plus_char fs negative c = go None (numeral fs negative (signed_exponent ws ds l plus))
+move_numeral (after_letter ws ds l) minus_char fs negative c = go None (numeral fs negative (signed_exponent ws ds l minus))
+move_numeral (after_letter ws ds l) _ fs negative c = bad
 move_numeral (signed_exponent ws ds l s) digits fs negative c = go None
     (numeral fs negative (exponent ws ds l s (c ∷ [])))
 move_numeral (signed_exponent ws ds l s) _ fs negative c = bad
@@ -218,11 +218,11 @@ closed_string r (as_key fs es opened) bs left = go (repeated_if r es bs (opened 
 abbrev pub move_between : Reading → Role → List ℕ → ℕ → ℕ → Move
 move_between r role bs c left =
     if c == quotation_mark then closed_string r role bs left
-    else (if c == escape then go None (string role bs slash)
+    else (if c == escape then go None (string role bs after_backslash)
     else (if is_unescaped c then go None (string role (bs ++ encode_utf8 c) between) else bad))
 
-abbrev pub move_slash : Role → List ℕ → ℕ → Move
-move_slash role bs c =
+abbrev pub move_after_backslash : Role → List ℕ → ℕ → Move
+move_after_backslash role bs c =
     if c == 117 then go None (string role bs (code 3 0))
     else (if is_simple c then go None (string role (bs ++ encode_utf8 (unescaped c)) between) else bad)
 
@@ -248,10 +248,10 @@ move_second_code role bs u (suc n) v c = go None (string role bs (second_code u 
 
 abbrev pub move_string : Reading → StringState → Role → List ℕ → ℕ → ℕ → Move
 move_string r between role bs c left = move_between r role bs c left
-move_string r slash role bs c left = move_slash role bs c
+move_string r after_backslash role bs c left = move_after_backslash role bs c
 move_string r (code n u) role bs c left = if is_ascii_hexdigit c then move_code role bs n u c else bad
-move_string r (second u) role bs c left = if c == escape then go None (string role bs (second_slash u)) else bad
-move_string r (second_slash u) role bs c left = if c == 117 then go None (string role bs (second_code u 3 0)) else bad
+move_string r (second u) role bs c left = if c == escape then go None (string role bs (second_backslash u)) else bad
+move_string r (second_backslash u) role bs c left = if c == 117 then go None (string role bs (second_code u 3 0)) else bad
 move_string r (second_code u n v) role bs c left = if is_ascii_hexdigit c then move_second_code role bs u n v c else bad
 
 -- ---- the automaton

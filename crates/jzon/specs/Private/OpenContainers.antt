@@ -70,9 +70,9 @@ abbrev pub before_item : OpenContainers → State
 before_item s = before_item_as s.innermost.kind (frames_around s) s.innermost
 
 -- no key is without its value
-abbrev pub IsEven : ContainerKind → Container → Type 0
-IsEven Array c = c.keys ≡ []
-IsEven Object c = length c.keys ≡ length c.values
+abbrev pub HasAllValues : ContainerKind → Container → Type 0
+HasAllValues Array c = c.keys ≡ []
+HasAllValues Object c = length c.keys ≡ length c.values
 
 -- the last key of an object is without its value
 abbrev pub AwaitsValue : ContainerKind → Container → Type 0
@@ -117,13 +117,13 @@ after_items s (Some b) = after_opener b (frames_here s)
 
 -- an element or a key comes next, in containers that the reading allows
 pub record IsBeforeItem (t : Cursor) (s : OpenContainers) : Type 0 where
-  pub even : IsEven s.innermost.kind s.innermost
+  pub even : HasAllValues s.innermost.kind s.innermost
   pub room : length s.around < t.reading.depth
   pub some : s.innermost.values ≡ [] → next_byte t ≢ closer s.innermost.kind
 
 -- the innermost container ended, or the reading allows the one that was opened in it, in which something comes next
 abbrev pub IsAfterItems : Cursor → OpenContainers → Option ContainerKind → Type 0
-IsAfterItems t s None = IsEven s.innermost.kind s.innermost
+IsAfterItems t s None = HasAllValues s.innermost.kind s.innermost
 IsAfterItems t s (Some b) =
     AwaitsValue s.innermost.kind s.innermost × (length s.around + 1 < t.reading.depth) × (next_byte t ≢ closer b)
 

@@ -13,8 +13,17 @@ use std::simd::prelude::*;
 pub(crate) const EIGHT: usize = 8;
 
 /// `10 ^ n` at each position `n`.
-const POWERS_OF_TEN: [u64; 9] =
-    [1, 10, 100, 1_000, 10_000, 100_000, 1_000_000, 10_000_000, 100_000_000];
+const POWERS_OF_TEN: [u64; 9] = [
+    1,
+    10,
+    100,
+    1_000,
+    10_000,
+    100_000,
+    1_000_000,
+    10_000_000,
+    100_000_000,
+];
 
 /// A power of ten.
 #[inline(always)]

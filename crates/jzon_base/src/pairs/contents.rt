@@ -62,8 +62,8 @@ impl<V> Contents<V> {
         ensures err { OnErr result (self.new ≡ self.old) }
         ensures present { OnErr result (find name.now self.old ≡ None) }
     {
-        // `put` returns the position of a key that is there. Else it puts the key, and makes room for
-        // its value.
+        // `put` returns the position of a key that is there. Else it puts the key, and makes room
+        // for its value.
         match self.keys.put(alloc, &mut self.values, name)? {
             Some(index) => self.values[index] = value,
             None => self.values.push_reserved(value),
@@ -83,8 +83,8 @@ impl<V> Contents<V> {
         ensures err { OnErr result (self.new ≡ self.old) }
         ensures present { OnErr result (find name.now self.old ≡ None) }
     {
-        // `put` returns the position of a key that is there. Else it puts the key, and makes room for
-        // its value.
+        // `put` returns the position of a key that is there. Else it puts the key, and makes room
+        // for its value.
         match self.keys.put(alloc, &mut self.values, name)? {
             Some(index) => Ok(index),
             None => {

@@ -37,8 +37,8 @@ fn show<W: fmt::Write>(value: &JsonValue, f: &mut fmt::Formatter<W>) -> fmt::Res
 {
     match value {
         JsonValue::Null => f.write_str("null"),
-        JsonValue::Short(text) => show_text(text.as_str(), f),
-        JsonValue::String(text) => show_text(text.as_str(), f),
+        JsonValue::Short(text) => show_string(text.as_str(), f),
+        JsonValue::String(text) => show_string(text.as_str(), f),
         JsonValue::Number(number) if number.is_nan() => f.write_str("null"),
         JsonValue::Number(number) => fmt::Display::fmt(number, f),
         JsonValue::Boolean(true) => f.write_str("true"),
@@ -72,7 +72,7 @@ fn show_object<W: fmt::Write>(object: &Object, f: &mut fmt::Formatter<W>) -> fmt
     for index in 0..object.len() {
         let (key, value) = object.pairs.get_at(index);
         show_comma(index > 0, f)?;
-        show_text(key, f)?;
+        show_string(key, f)?;
         f.write_str(":")?;
         show(value, f)?;
     }
@@ -90,7 +90,7 @@ fn show_comma<W: fmt::Write>(comma: bool, f: &mut fmt::Formatter<W>) -> fmt::Res
 }
 
 /// Shows the string in quotes, escaped. Runs of bytes that need no escape are shown whole.
-fn show_text<W: fmt::Write>(text: &str, f: &mut fmt::Formatter<W>) -> fmt::Result
+fn show_string<W: fmt::Write>(text: &str, f: &mut fmt::Formatter<W>) -> fmt::Result
     ensures { WritesOnOk W.write_str_gives f.old result (quoted text.now) f.new }
 {
     f.write_str("\"")?;

@@ -8,8 +8,8 @@
 //! `IsAnswer style keys answer` says that the style allows this order of the keys.
 //!
 //! A hook `try_..` does what the hook of that name does, and stores an error in the slot
-//! (`error_slot`). The contracts of all hooks are in `generator`. A `put_..` of the destination adds
-//! all and returns `true`, or adds nothing and returns `false`.
+//! (`error_slot`). The contracts of all hooks are in `generator`. A `put_..` of the destination
+//! adds all and returns `true`, or adds nothing and returns `false`.
 
 ghost use Rattle.std.specs.Prelude.{◌≡◌, [], Ok, None, Some, IsSome, IsTrue, IsUtf8, IfErr, IfOk, MatchResult, OnErr, string_bytes};
 ghost use Rattle.std.specs.IoError.{error_kind};
@@ -60,7 +60,7 @@ impl<P: Destination, L: Layout> TextGenerator<P, L> {
 
     /// Returns the result of a call, and counts a fault if it failed.
     #[inline(always)]
-    fn count(&mut self, step: SlotResult<()>) -> SlotResult<()>
+    fn count_fault(&mut self, step: SlotResult<()>) -> SlotResult<()>
         ensures result { result ≡ step }
         ensures faults { Counts step (text_meaning P.out P.lender L.style self.old)
             (text_meaning P.out P.lender L.style self.new) }
@@ -158,8 +158,8 @@ impl<P: Destination, L: Layout> Generator for TextGenerator<P, L> {
         take_result(step, slot)
     }
 
-    /// What the layout's `order` returns: the positions of the entries as they are to be written, or
-    /// `None` for the order of insertion. If the layout always returns `None` (`keeps_order`),
+    /// What the layout's `order` returns: the positions of the entries as they are to be written,
+    /// or `None` for the order of insertion. If the layout always returns `None` (`keeps_order`),
     /// nothing of the generator changes.
     #[inline(always)]
     fn order(&mut self, object: &Object) -> io::Result<Option<Vec<usize>>>
@@ -185,7 +185,7 @@ impl<P: Destination, L: Layout> Generator for TextGenerator<P, L> {
     #[inline(always)]
     fn try_write(&mut self, slice: &[u8], slot: &mut ErrorSlot) -> SlotResult<()> {
         let step = send(self.place.writer(), slice, slot);
-        self.count(step)
+        self.count_fault(step)
     }
 
     #[inline(always)]
@@ -232,7 +232,7 @@ impl<P: Destination, L: Layout> Generator for TextGenerator<P, L> {
             return Ok(());
         }
         let step = send_line(self.place.writer(), spaces, slot);
-        self.count(step)
+        self.count_fault(step)
     }
 
     ghost writer_law = { λ g w. same_emitted (P.out_law g.place w) (P.lender_law g.place w) };
@@ -360,8 +360,8 @@ impl<'a, W: Outlet, L: Layout> TextGenerator<Through<'a, W>, L> {
         TextGenerator::over(Through { outlet }, layout)
     }
 
-    /// Ends the generator and returns its outlet: a caller's clause can then speak of the bytes that
-    /// the outlet has.
+    /// Ends the generator and returns its outlet: a caller's clause can then speak of the bytes
+    /// that the outlet has.
     pub(crate) fn into_outlet(self) -> &'a mut W
     where
         L: Drop,

@@ -3,8 +3,8 @@
 //! `at_index_mut` adds it, and `place_in items index` is the position of this one.
 //!
 //! A function `.._in` does the same for any type of the trait `Tree`, whose nodes are its values:
-//! `T.pairs` are the entries of an object, and `T.object` is the object of some entries. The checker
-//! proves a write through a reference only if its type isn't that of the receiver.
+//! `T.pairs` are the entries of an object, and `T.object` is the object of some entries. The
+//! checker proves a write through a reference only if its type isn't that of the receiver.
 #![tactic(auto, using(crate::proofs::Values::WriteViews::written))]
 
 ghost use Rattle.std.specs.Prelude.{◌≡◌, ◌≤◌, length, slice_set, IfSome, OnOk, OnErr, IsOkUnless, MatchOption, is_some, None, Some, true, false};

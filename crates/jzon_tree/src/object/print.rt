@@ -65,6 +65,6 @@ impl Object {
         }
         // The error in the slot isn't needed. Only the depth or an allocation can have failed, and
         // the depth of the object says which.
-        Err(inspect_object(self).refusal())
+        Err(inspect_object(self).printing_error())
     }
 }

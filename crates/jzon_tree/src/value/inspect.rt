@@ -45,7 +45,7 @@ impl Inspection {
     }
 
     /// Why printing the value into memory failed: it is too deep, or else an allocation failed.
-    pub(crate) fn refusal(self) -> Error
+    pub(crate) fn printing_error(self) -> Error
         ensures memory { (v : Value) → IsInspected v self.has_nan self.nest → nest v < 2 ^ 64
             → result ≡ Error.OutOfMemory }
         ensures depth { (v : Value) → IsInspected v self.has_nan self.nest → 2 ^ 64 ≤ nest v

@@ -78,7 +78,7 @@ impl JsonValue {
         }
         // The error in the slot isn't needed. Only the depth or an allocation can have failed, and
         // the depth of the value says which.
-        Err(inspect(self).refusal())
+        Err(inspect(self).printing_error())
     }
 
     /// Writes the compact text of the value, with no whitespace outside of its strings. An error is

@@ -119,12 +119,12 @@ returns-in_err-spelled-in-34-clause-outcome g c =
     (byte_within source start 34 e (lit< tt)) e (lit< tt) may.shallow))
     (c.in_err-spelled-in-34.ensures.outcome r (as_value fs)))
 
-pub returns-in_ok-put_text-in-34-clause-outcome : goal.returns-in_ok-put_text-in-34-clause-outcome
-returns-in_ok-put_text-in-34-clause-outcome g c =
+pub returns-in_ok-put_string_value-in-34-clause-outcome : goal.returns-in_ok-put_string_value-in-34-clause-outcome
+returns-in_ok-put_string_value-in-34-clause-outcome g c =
     let source = c.args.source.now in
     let start = c.args.start in
     let e : get_or source start 0 ≡ 34 = sym c.requires.first ∙ c.in-34.is in
-    let put = c.in_ok-put_text-in-34.ensures.value in (
+    let put = c.in_ok-put_string_value-in-34.ensures.value in (
       put.0,
       put.1,
       λ r fs may. begin_by r source start fs quote _ refl c.utf8.source c.requires.boundary

@@ -2,7 +2,7 @@ use Rattle.jzon_base.proofs.Common.{◌≡◌, ◌+◌, ◌++◌, ◌∙◌, ◌
 use Rattle.jzon_base.proofs.Common.{MatchResult, List, false, err_from_is_err_and, iff_false, nat_tests, IsCharBoundary-after_ascii}
 use Rattle.jzon.specs.Grammar.{is_simple, is_surrogate}
 use Rattle.jzon.specs.Meaning.{unescaped}
-use Rattle.jzon.specs.Private.Machine.{Role, string, between, slash, code, after_unit, from, Reports}
+use Rattle.jzon.specs.Private.Machine.{Role, string, between, after_backslash, code, after_unit, from, Reports}
 use Rattle.jzon.specs.Reading.{Reading}
 use Rattle.std.specs.Char.{IsScalar, OutOfScalarRange}
 use Rattle.jzon.proofs.Containers.FrameViews.{byte_within}
@@ -16,7 +16,7 @@ read_hex-requires c =
     IsCharBoundary-after_ascii c.args.source.now c.args.start c.utf8.source here.0 (omega (arith, here.1))
 
 begins : (c : After-read_hex) (r : Reading) (role : Role) (bs : List ℕ)
-    → from r c.args.source.now (string role bs slash) c.args.start
+    → from r c.args.source.now (string role bs after_backslash) c.args.start
     ≡ from r c.args.source.now (string role bs (code 3 0)) (c.args.start + 1)
 begins c r role bs =
     let here = c.has_byte.ensures.0 c.if-has_byte.true in

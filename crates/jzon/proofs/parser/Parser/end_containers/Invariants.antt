@@ -1,13 +1,13 @@
 use Rattle.jzon_base.proofs.Common.{◌≡◌, ◌<◌, ◌-◌, length}
 use Rattle.jzon.specs.Private.Machine.{after_value}
-use Rattle.jzon.specs.Private.OpenContainers.{frames_around, whole, IsEven}
+use Rattle.jzon.specs.Private.OpenContainers.{frames_around, whole, HasAllValues}
 use Rattle.jzon.proofs.Texts.Cursors.{Reached}
 use Rattle.jzon.proofs.parser.Parser.end_containers.Given as goal
 
 abbrev pub invariant-loop-value : goal.invariant-loop-value
 invariant-loop-value l = record {
   strict : l.self.stacks.strict ≡ l.initial.self.stacks.strict;
-  even : IsEven l.self.stacks.innermost.kind l.self.stacks.innermost;
+  even : HasAllValues l.self.stacks.innermost.kind l.self.stacks.innermost;
   room : length l.self.stacks.around < l.self.cursor.reading.depth;
   came :
       Reached l.initial.self.cursor (after_value (frames_around l.initial.self.stacks)

@@ -6,7 +6,7 @@ use Rattle.jzon.specs.Private.Brackets.{closer}
 use Rattle.jzon.specs.Private.Cursor.{next_byte}
 use Rattle.jzon.specs.Private.Machine.{as_key, left_at, before, object_frame}
 use Rattle.jzon.specs.Private.OpenContainers.{before_item, entries_so_far, frames_around, frames_here, key_added}
-use Rattle.jzon.specs.Private.OpenContainers.{IsEven}
+use Rattle.jzon.specs.Private.OpenContainers.{HasAllValues}
 use Rattle.jzon.proofs.Containers.ContainerSteps.{open_key}
 use Rattle.jzon.proofs.Containers.ContainerTokens.{key_closes, key_missing}
 use Rattle.jzon.proofs.Containers.FrameViews.{byte_within}
@@ -25,7 +25,7 @@ returns-then-peek-ne34-clause-outcome c =
     let s = c.args.self.now.stacks in
     let some : entries_so_far s.innermost ≡ [] → next_byte t ≢ end_object =
     λ none. subst (λ b. next_byte t ≢ closer b) c.requires.object (c.requires.before.some
-    (no_entries s.innermost (subst (λ b. IsEven b s.innermost) c.requires.object c.requires.before.even) none)) in
+    (no_entries s.innermost (subst (λ b. HasAllValues b s.innermost) c.requires.object c.requires.before.even) none)) in
     reported_on c.fault.result (at_key t s c.requires.object)
     (reported t.source.now c.fault.result _ _
     (key_missing t (frames_around s) (entries_so_far s.innermost) (no_key_mark t s c.requires.before.room)
@@ -95,7 +95,7 @@ returns-clause-outcome c =
     ap (λ k. t.reading.strict && is_some (find k es)) (sym c.text.ensures.text)
     ∙ ap (λ z. z && is_some (find name es)) (sym c.requires.strict)
     ∙ sym c.in_ok-push_key.ensures.rejected ∙ c.if-branch.false in
-    let even = subst (λ b. IsEven b s.innermost) c.requires.object c.requires.before.even in
+    let even = subst (λ b. HasAllValues b s.innermost) c.requires.object c.requires.before.even in
     let pushed = c.in_ok-push_key.ensures.pushed ∙ ap (λ b. if b then s else key_added s name) c.if-branch.false in
     let next = key_here s u name c.requires.object even pushed in
     goes_as t c.colon_at.new.self (before_item s) c.colon_at.result (λ _. before (object_frame fs es text))
@@ -121,6 +121,6 @@ pub returns-clause-awaits : goal.returns-clause-awaits
 returns-clause-awaits c =
     let s = c.args.self.now.stacks in
     let name = c.text.result.0.now in
-    let even = subst (λ b. IsEven b s.innermost) c.requires.object c.requires.before.even in
+    let even = subst (λ b. HasAllValues b s.innermost) c.requires.object c.requires.before.even in
     on_ok c.colon_at.result (key_awaits s c.push_key.new.self name even (c.in_ok-push_key.ensures.pushed
     ∙ ap (λ b. if b then s else key_added s name) c.if-branch.false))

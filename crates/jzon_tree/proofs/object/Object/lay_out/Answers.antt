@@ -16,7 +16,7 @@ returns-clause-writing g c =
     c.in-Ok-write_pairs.ensures.value c.in-Ok-write_pairs.ensures.written refl).1
 
 pub returns-2-clause-memory : goal.returns-2-clause-memory
-returns-2-clause-memory g c = c.refusal.ensures.memory (view_object c.args.self.now) c.inspect_object.ensures
+returns-2-clause-memory g c = c.printing_error.ensures.memory (view_object c.args.self.now) c.inspect_object.ensures
 
 pub returns-2-clause-depth : goal.returns-2-clause-depth
-returns-2-clause-depth g c = c.refusal.ensures.depth (view_object c.args.self.now) c.inspect_object.ensures
+returns-2-clause-depth g c = c.printing_error.ensures.depth (view_object c.args.self.now) c.inspect_object.ensures

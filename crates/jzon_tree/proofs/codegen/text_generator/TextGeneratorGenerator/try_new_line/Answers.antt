@@ -38,4 +38,4 @@ returns-clause-bytes g c =
     (c.writer.ensures.bytes ∙ c.put_line.ensures.left c.if-put_line.false) c.send_line-step.ensures.bytes
     (same_emitted (g.met.P.Destination.out_law place writer)
     (g.met.P.Destination.lender_law place writer ∙ c.put_line.ensures.lender))
-    c.count.ensures.result c.count.ensures.faults
+    c.count_fault.ensures.result c.count_fault.ensures.faults

@@ -4,7 +4,7 @@ use Rattle.jzon_base.specs.Private.PlainBytes.{is_plain}
 use Rattle.jzon_tree.specs.Text.{escaped}
 use Rattle.jzon_tree.proofs.Printing.StringRuns.{needs_escape}
 use Rattle.jzon_tree.proofs.Printing.FormattedPieces.{escape_shown, text_shown}
-use Rattle.jzon_tree.proofs.codegen.display.show_text.Goals as goal
+use Rattle.jzon_tree.proofs.codegen.display.show_string.Goals as goal
 
 pub split_at-requires : goal.split_at-requires
 split_at-requires g c = rw c.plain_len.ensures (prefix_len-le-length is_plain c.loop-byte.rest.now)

@@ -1,6 +1,6 @@
 use Rattle.jzon_base.proofs.Common.{List, ℕ, length, HasWritten, IsPlainFormatter}
 use Rattle.jzon_tree.proofs.Printing.FormattedPieces.{TextLeft}
-use Rattle.jzon_tree.proofs.codegen.display.show_text.Given as goal
+use Rattle.jzon_tree.proofs.codegen.display.show_string.Given as goal
 
 -- what has been shown and what is left make up the string
 abbrev pub invariant-loop-byte : goal.invariant-loop-byte
