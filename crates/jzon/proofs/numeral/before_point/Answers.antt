@@ -1,5 +1,5 @@
-use Rattle.jzon_base.proofs.Common.{◌≡◌, ℕ, ◌+◌, ◌-◌, ◌*◌, ◌<◌, ◌^◌, List, length, suc, drop, take, get_or, arith, sym, rules}
-use Rattle.jzon_base.proofs.Common.{drop-cons, mod-eq_of_lt, add-one}
+use Rattle.jzon_base.proofs.Common.{◌≡◌, ℕ, ◌+◌, ◌-◌, ◌*◌, ◌<◌, ◌^◌, List, length, suc, drop, take, get_or, arith, sym}
+use Rattle.jzon_base.proofs.Common.{rules, drop-cons, mod-eq_of_lt, add-one}
 use Rattle.jzon_base.specs.Digits.{digits_number}
 use Rattle.jzon.proofs.numeral.before_point.Goals as goal
 

@@ -1,5 +1,6 @@
 use Rattle.jzon_base.proofs.Common.{◌≡◌, ◌+◌, ◌++◌, ◌∙◌, ◌<◌, ℕ, true, ap, refl, sym, subst, arith, encode_utf8}
-use Rattle.jzon_base.proofs.Common.{MatchResult, List, false, err_from_is_err_and, iff_false, nat_tests, IsCharBoundary-after_ascii}
+use Rattle.jzon_base.proofs.Common.{MatchResult, List, false, err_from_is_err_and, iff_false, nat_tests}
+use Rattle.jzon_base.proofs.Common.{IsCharBoundary-after_ascii}
 use Rattle.jzon.specs.Grammar.{is_simple, is_surrogate}
 use Rattle.jzon.specs.Meaning.{unescaped}
 use Rattle.jzon.specs.Private.Machine.{Role, string, between, after_backslash, code, after_unit, from, Reports}

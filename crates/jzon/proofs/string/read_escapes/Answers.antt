@@ -1,5 +1,5 @@
-use Rattle.jzon_base.proofs.Common.{rules, ◌≡◌, ◌∙◌, ◌++◌, ap, sym, subst, arith, inr, string_bytes, err_from_is_err_and}
-use Rattle.jzon_base.proofs.Common.{IsCharBoundary-after_ascii}
+use Rattle.jzon_base.proofs.Common.{rules, ◌≡◌, ◌∙◌, ◌++◌, ap, sym, subst, arith, inr, string_bytes}
+use Rattle.jzon_base.proofs.Common.{err_from_is_err_and, IsCharBoundary-after_ascii}
 use Rattle.std.proofs.lemmas.Result.{MatchResult-weaker}
 use Rattle.jzon.specs.Private.Machine.{Role, string, between, from, Reports}
 use Rattle.jzon.proofs.Strings.Quotes.{backslash_begins}

@@ -1,5 +1,5 @@
-use Rattle.jzon_base.proofs.Common.{◌≡◌, ◌≤◌, ◌∙◌, ◌++◌, length, length-append, arith, ints, clamps, ap₂, ◌-◌}
-use Rattle.jzon_base.proofs.Common.{take_all, All, All-append, mod-eq_of_lt}
+use Rattle.jzon_base.proofs.Common.{◌≡◌, ◌≤◌, ◌∙◌, ◌++◌, length, length-append, arith, ints, clamps, ap₂, ◌-◌, take_all}
+use Rattle.jzon_base.proofs.Common.{All, All-append, mod-eq_of_lt}
 use Rattle.jzon_base.specs.Decimal.{parts}
 use Rattle.jzon_base.specs.Digits.{IsDigit, kept_len}
 use Rattle.jzon_base.proofs.Numbers.DigitPrefixes.{few_fit, few_kept}

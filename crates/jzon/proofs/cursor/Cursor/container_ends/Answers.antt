@@ -1,5 +1,6 @@
-use Rattle.jzon_base.proofs.Common.{◌≡◌, ◌∙◌, ◌⊎◌, inl, inr, ◌≤◌, ◌+◌, ℕ, get_or, refl, sym, arith, true, false, not, nat_eq, nat_tests, eqb-true, Bool, if◌then◌else◌, Ok, ◌<◌}
-use Rattle.jzon_base.proofs.Common.{IsCharBoundary, IsCharBoundary-after_ascii}
+use Rattle.jzon_base.proofs.Common.{◌≡◌, ◌∙◌, ◌⊎◌, inl, inr, ◌≤◌, ◌<◌, ◌+◌, ℕ, get_or, refl, sym, arith, true, false, not}
+use Rattle.jzon_base.proofs.Common.{nat_eq, nat_tests, eqb-true, Bool, if◌then◌else◌, Ok, IsCharBoundary}
+use Rattle.jzon_base.proofs.Common.{IsCharBoundary-after_ascii}
 use Rattle.jzon.specs.declared.cursor.Cursor.{Cursor}
 use Rattle.jzon.specs.declared.cursor.ContainerKind.{ContainerKind}
 use Rattle.jzon.specs.Private.Brackets.{closer, after_closer, after_comma}
@@ -9,14 +10,18 @@ use Rattle.jzon.proofs.Containers.ContainerTokens.{closes, comma_goes, closer_bo
 use Rattle.jzon.proofs.Containers.FrameViews.{byte_within}
 use Rattle.jzon.proofs.Texts.Cursors.{utf8_of, ReadTo}
 use Rattle.jzon.proofs.Texts.ReportedErrors.{reported}
-use Rattle.jzon.proofs.cursor.Cursor.container_ends.Goals.{After-row_known-1, then-next-ne44+then-next-closer+else-next-ne44-2, else-next-ne44-2-via-then-next-ne44-2+else-next-closer-2, else-next-ne44-2-via-else-next-ne44-2, else-next-ne44, else-next-ne44-via-then-next-ne44+else-next-closer, else-next-ne44-via-else-next-ne44}
+use Rattle.jzon.proofs.cursor.Cursor.container_ends.Goals.{After-row_known-1, then-next-ne44+then-next-closer+else-next-ne44-2}
+use Rattle.jzon.proofs.cursor.Cursor.container_ends.Goals.{else-next-ne44-2-via-then-next-ne44-2+else-next-closer-2, else-next-ne44}
+use Rattle.jzon.proofs.cursor.Cursor.container_ends.Goals.{else-next-ne44-2-via-else-next-ne44-2, else-next-ne44-via-else-next-ne44}
+use Rattle.jzon.proofs.cursor.Cursor.container_ends.Goals.{else-next-ne44-via-then-next-ne44+else-next-closer}
 use Rattle.jzon.proofs.cursor.Cursor.container_ends.Goals as goal
 
 -- a comma or the closing bracket is at this offset, after whitespace alone
 record Found (t : Cursor) (end : ℕ) (kind : ContainerKind) (at next : ℕ) : Type 0 where
   pub boundary : IsCharBoundary t.source.now at
   pub within : end ≤ at
-  pub same : (p : State) → allows_whitespace p ≡ true → from t.reading t.source.now p end ≡ from t.reading t.source.now p at
+  pub same : (p : State) → allows_whitespace p ≡ true → from t.reading t.source.now p end
+      ≡ from t.reading t.source.now p at
   pub here : get_or t.source.now at 0 ≡ next
   pub token : (next ≡ 44) ⊎ (next ≡ closer kind)
 
@@ -45,6 +50,10 @@ found c = elim c.if-next-ne44.branch [
   })
 ]
 
+token_bounds : (kind : ContainerKind) (next : ℕ) → (next ≡ 44) ⊎ (next ≡ closer kind) → (0 < next) × (next < 128)
+token_bounds kind next (inl e) = (omega (arith, e), omega (arith, e))
+token_bounds kind next (inr e) = (omega (arith, e, (closer_bounds kind).0), omega (arith, e, (closer_bounds kind).1))
+
 pub returns-then-next-closer-2 : goal.returns-then-next-closer-2
 returns-then-next-closer-2 c p fs v here before =
     let t = c.args.self.now in
@@ -59,31 +68,20 @@ returns-then-next-closer-2 c p fs v here before =
     (λ e. c.if-next-closer-2.true (c.byte_at-next-then-next-closer.ensures ∙ e ∙ sym c.closer-then-next-ne44-2.ensures)))
     c.fault_at.ensures
 
-past : (t : Cursor) (end : ℕ) (kind : ContainerKind) (at next : ℕ) → Found t end kind at next
-    → IsCharBoundary t.source.now (at + 1)
-past t end kind at next f = by_token f.token
-  where
-    after : (0 < next) → next < 128 → IsCharBoundary t.source.now (at + 1)
-    after some ascii = IsCharBoundary-after_ascii t.source.now at (utf8_of t) (byte_within t.source.now at next f.here some)
-        (rw f.here ascii)
-
-    by_token : (next ≡ 44) ⊎ (next ≡ closer kind) → IsCharBoundary t.source.now (at + 1)
-    by_token (inl e) = after (omega (arith, e)) (omega (arith, e))
-    by_token (inr e) = after (omega (arith, e, (closer_bounds kind).0)) (omega (arith, e, (closer_bounds kind).1))
-
 pub go_to-requires : goal.go_to-requires
-go_to-requires c = past _ _ _ _ _ (found (goal.at.go_to-requires c).After-row_known-1)
+go_to-requires c =
+    let t = c.args.self.now in
+    let f = found (goal.at.go_to-requires c).After-row_known-1 in
+    let (some, ascii) = token_bounds c.args.kind c.if-next-ne44.next f.token in
+    IsCharBoundary-after_ascii t.source.now c.if-next-ne44.at (utf8_of t) (byte_within t.source.now _ _ f.here some)
+    (rw f.here ascii)
 
 goes : (t u : Cursor) (end : ℕ) (kind : ContainerKind) (at next : ℕ) → Found t end kind at next → t.index ≤ end
     → IsPast t.reading t.source.now (at + 1) u → EndsItem t end kind (Ok (not (nat_eq next 44))) u
 goes t u end kind at next f within moved p fs v here before = by_comma (nat_eq next 44) refl
   where
     read : ReadTo t p (after_value fs v) at
-    read = record {
-      boundary = f.boundary;
-      within = omega (arith, within, f.within);
-      same = before ∙ f.same (after_value fs v) refl;
-    }
+    read = record { boundary = f.boundary; within = omega (arith, within, f.within); same = before ∙ f.same _ refl }
 
     bracket : nat_eq next 44 ≡ false → (next ≡ 44) ⊎ (next ≡ closer kind) → next ≡ closer kind
     bracket other (inl e) = grind (arith, nat_tests)
