@@ -14,7 +14,7 @@ ghost use Rattle.std.specs.Prelude.{◌≡◌, ◌≢◌, ◌<◌, ◌≤◌, �
 ghost use Rattle.std.specs.Str.{IsCharBoundary, IsUtf8};
 ghost use Rattle.jzon_tree.specs.View.{view};
 ghost use Rattle.jzon_tree.specs.Writing.{is_whitespace};
-ghost use Rattle.jzon.specs.Private.Brackets.{opener, closer, empty_container, innermost_kind, after_opener, after_comma, after_closer};
+ghost use Rattle.jzon.specs.Private.Brackets.{opener, closer, empty_container, after_opener};
 ghost use Rattle.jzon.specs.Private.Machine.{Frames, frames_depth, value_mark, before, after_value, from, fault_here, Reports};
 ghost use Rattle.jzon_base.specs.Tokens.{begin_array, begin_object};
 

@@ -11,13 +11,13 @@
 //! too deep, and neither whitespace nor the end of an empty array is there. The states `before fs`
 //! and `after_value fs v` are before a value in the containers `fs`, and after the value `v`.
 
-ghost use Rattle.std.specs.Prelude.{◌≡◌, ◌≢◌, ◌⊎◌, ◌<◌, ◌+◌, ◌^◌, length, chars, IsTrue, IfOk, Err, MatchResult, codes, drop, slice_index, None, true, false, IsAscii, ⊤};
+ghost use Rattle.std.specs.Prelude.{◌≡◌, ◌≢◌, ◌⊎◌, ◌<◌, ◌+◌, length, IsTrue, IfOk, Err, MatchResult, codes, slice_index, None, true, false, IsAscii, ⊤};
 ghost use Rattle.std.specs.Char.{is_ascii_digit};
 ghost use Rattle.std.specs.Str.{IsCharBoundary};
 ghost use Rattle.jzon_tree.specs.Value.{Value, null, boolean};
 ghost use Rattle.jzon_tree.specs.View.{view};
 ghost use Rattle.jzon.specs.Private.Classes.{letter_n, letter_t, letter_f};
-ghost use Rattle.jzon.specs.Private.Machine.{numeral_after_first, before, Frames, after_value, past_letter, value_mark, from, Reports, fault_here};
+ghost use Rattle.jzon.specs.Private.Machine.{numeral_after_first, before, Frames, after_value, past_letter, value_mark, from, Reports};
 ghost use Rattle.jzon.specs.Private.Targets.{MayBegin, Puts};
 ghost use Rattle.jzon.specs.Reading.{Reading};
 ghost use Rattle.jzon_base.specs.Tokens.{begin_array, begin_object, quotation_mark};

@@ -13,18 +13,18 @@
 //! `EndsAtQuote source start end` says that the byte before `end` is a quote, and not before
 //! `start`; `is_plain` holds of a byte that needs no escape.
 
-ghost use Rattle.std.specs.Prelude.{◌≡◌, ◌<◌, ◌≤◌, ◌+◌, ◌-◌, ◌++◌, ◌&&◌, ◌⊎◌, ◌↔◌, Contains, ℕ, List, [], length, drop, take, chars, IsTrue, IfOk, IsOk, IsOkUnless, SomeIff, MatchResult, OnOk, OnErr, slice_index, slice_range, string_bytes, if◌then◌else◌, false};
+ghost use Rattle.std.specs.Prelude.{◌≡◌, ◌<◌, ◌≤◌, ◌+◌, ◌-◌, ◌++◌, ◌&&◌, ◌⊎◌, ◌↔◌, Contains, ℕ, List, [], length, take, IsTrue, IfOk, IsOk, IsOkUnless, SomeIff, MatchResult, OnOk, OnErr, slice_index, slice_range, string_bytes, if◌then◌else◌, false};
 ghost use Rattle.std.specs.Str.{IsCharBoundary};
 ghost use Rattle.jzon_base.specs.Private.PlainBytes.{is_plain};
 ghost use Rattle.jzon_base.specs.Tokens.{escape};
 ghost use Rattle.jzon_tree.specs.Value.{text, kind_of};
 ghost use Rattle.jzon_tree.specs.View.{view};
 ghost use Rattle.jzon.specs.Reading.{Reading};
-ghost use Rattle.jzon.specs.Grammar.{is_high, is_low, is_surrogate, code_unit};
+ghost use Rattle.jzon.specs.Grammar.{is_high, is_low, code_unit};
 ghost use Rattle.jzon.specs.Meaning.{pair_char};
 ghost use Rattle.jzon.specs.Private.Quote.{EndsAtQuote, ReadsCharacter, ReadsUnit, ReadsSecondUnit};
 ghost use Rattle.jzon.specs.declared.fault.Stop.TheVariants.{Memory};
-ghost use Rattle.jzon.specs.Private.Machine.{Role, string, between, after_backslash, code, second, second_code, after_unit, move_pair, outcome_on, from, from_closed, Reports};
+ghost use Rattle.jzon.specs.Private.Machine.{Role, string, between, after_backslash, code, second, from, from_closed, Reports};
 
 use crate::bytes_at::{byte_at, has_byte};
 use crate::fault::{Result, Stop, fault_at};
