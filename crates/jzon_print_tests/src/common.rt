@@ -2,7 +2,7 @@
 //! hardly any time.
 
 use jzon::object::Object;
-use jzon::{JsonValue, Result, parse};
+use jzon::{JsonValue, Reading, Result, parse, parse_as};
 use jzon_test_support::Trouble;
 pub use jzon_test_support::{EACH_KIND, Tested, Tester, each_unread, number, parts};
 use std::alloc::Global;
@@ -34,11 +34,38 @@ pub fn each_value(alloc: Global) -> jzon::Result<Vec<(&'static str, JsonValue)>>
 
 /// Lengths that rise by a tenth, so that no call can fail in a wider band of lengths unseen; and some
 /// at which room may double.
-pub const LENGTHS: [u16; 42] = [
+pub const LENGTHS: &[u16] = &[
     330, 363, 399, 438, 481, 512, 513, 529, 581, 639, 702, 772, 849, 933, 1024, 1025, 1026, 1128,
     1240, 1364, 1500, 1650, 1815, 1996, 2195, 2414, 2655, 2920, 3212, 3533, 3886, 4274, 4701, 5171,
     5688, 6256, 6881, 7569, 8325, 9157, 10072, 11079,
 ];
+
+/// The call returned this text.
+pub fn is_text(found: Result<String>, text: &str) -> bool {
+    match found {
+        Ok(found) => found.as_str() == text,
+        Err(_) => false,
+    }
+}
+
+/// The call returned a value that equals this one.
+pub fn is_value(found: Result<JsonValue>, value: &JsonValue) -> bool {
+    match found {
+        Ok(found) => *value == found,
+        Err(_) => false,
+    }
+}
+
+/// What `{}` shows of the value.
+pub fn display(alloc: Global, value: &JsonValue) -> Result<String> {
+    Ok(format!(in alloc; "{value}")?)
+}
+
+/// What the text means, read strictly.
+pub fn read_strictly(alloc: Global, text: &str) -> Result<JsonValue> {
+    let strict = Reading::new(true, 512).unwrap();
+    parse_as(alloc, text, &strict)
+}
 
 /// The value dumps this text.
 pub fn expect_dump(rt: &impl Tester, value: &JsonValue, text: &str) -> Tested {

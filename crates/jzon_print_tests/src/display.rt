@@ -1,9 +1,10 @@
 //! What `{}` shows, also to a formatter that fails.
 
-use crate::common::{EACH_KIND, Tested, Tester, expect, expect_eq};
+use crate::common::{EACH_KIND, Tested, Tester, display, expect, is_text};
 use jzon::number::NAN;
-use jzon::{JsonValue, array, parse};
+use jzon::{JsonValue, Result, array, parse};
 use jzon_test_support::{NO_FAILING_CALL, joined, show_failing};
+use std::alloc::Global;
 
 /// A text, and what is shown of its value.
 const SHOWN: &[(&str, &str)] = &[
@@ -31,21 +32,19 @@ const SHOWN: &[(&str, &str)] = &[
     ),
 ];
 
-fn expect_shown(rt: &impl Tester, value: &JsonValue, text: &str) -> Tested {
-    let shown = format!(in rt.alloc(); "{value}")?;
-    expect_eq(rt, text, shown.as_str(), text);
-    Ok(())
+fn expect_shown(rt: &impl Tester, value: &JsonValue, text: &str) {
+    expect(rt, text, is_text(display(rt.alloc(), value), text));
 }
 
 #[test]
 fn shows(rt: HostRuntime) -> Tested {
     let alloc = rt.alloc();
     for (source, text) in SHOWN {
-        expect_shown(&rt, &parse(alloc, source)?, text)?;
+        expect_shown(&rt, &parse(alloc, source)?, text);
     }
-    expect_shown(&rt, &JsonValue::Number(NAN), "nan")?;
-    let array = array![alloc; JsonValue::Number(NAN)];
-    expect_shown(&rt, &array, "[null]")
+    expect_shown(&rt, &JsonValue::Number(NAN), "nan");
+    expect_shown(&rt, &array![alloc; JsonValue::Number(NAN)], "[null]");
+    Ok(())
 }
 
 /// The formatter fails at this call: there is an error, a prefix was shown, and nothing is shown
@@ -76,7 +75,7 @@ fn stops_where_the_formatter_fails(rt: HostRuntime) -> Tested {
 }
 
 /// The parts of compact texts: many elements, and many escapes.
-const LARGE: [[(&str, usize); 3]; 2] = [
+const LARGE: &[[(&str, usize); 3]] = &[
     [("[0", 1), (",0", 70000), ("]", 1)],
     [("[\"", 1), ("a\\n", 70000), ("\"]", 1)],
 ];
@@ -86,7 +85,7 @@ const LARGE: [[(&str, usize); 3]; 2] = [
 fn stops_late_where_the_formatter_fails(rt: HostRuntime) -> Tested {
     let alloc = rt.alloc();
     for parts in LARGE {
-        let whole = joined(alloc, &parts)?;
+        let whole = joined(alloc, parts)?;
         let value = parse(alloc, whole.as_str())?;
         let calls = calls_of(&rt, &value, whole.as_str());
         for call in [calls.saturating_sub(1), calls] {
@@ -96,20 +95,44 @@ fn stops_late_where_the_formatter_fails(rt: HostRuntime) -> Tested {
     Ok(())
 }
 
+/// A form of `{}`.
+#[derive(Clone, Copy)]
+enum Form {
+    Alternate,
+    Right,
+    Filled,
+    Cut,
+}
+
+const FORMS: &[Form] = &[Form::Alternate, Form::Right, Form::Filled, Form::Cut];
+
+impl Form {
+    fn show(self, alloc: Global, value: &JsonValue) -> Result<String> {
+        let shown = match self {
+            Form::Alternate => format!(in alloc; "{value:#}"),
+            Form::Right => format!(in alloc; "{value:>+40}"),
+            Form::Filled => format!(in alloc; "{value:*^40}"),
+            Form::Cut => format!(in alloc; "{value:040.1}"),
+        };
+        Ok(shown?)
+    }
+}
+
+/// Each form shows the value as `{}` does.
+fn expect_forms(rt: &impl Tester, value: &JsonValue) -> Tested {
+    let plain = display(rt.alloc(), value)?;
+    for form in FORMS {
+        let shown = form.show(rt.alloc(), value);
+        expect(rt, plain.as_str(), is_text(shown, plain.as_str()));
+    }
+    Ok(())
+}
+
 /// Flags, a width, a fill and a precision change nothing.
 #[test]
 fn ignores_width_fill_and_the_alternate_form(rt: HostRuntime) -> Tested {
-    let alloc = rt.alloc();
     for text in EACH_KIND {
-        let value = parse(alloc, text)?;
-        let plain = format!(in alloc; "{value}")?;
-        let alternate = format!(in alloc; "{value:#}")?;
-        let right = format!(in alloc; "{value:>+40}")?;
-        let filled = format!(in alloc; "{value:*^40}")?;
-        let cut = format!(in alloc; "{value:040.1}")?;
-        for other in [alternate, right, filled, cut] {
-            expect_eq(&rt, text, other.as_str(), plain.as_str());
-        }
+        expect_forms(&rt, &parse(rt.alloc(), text)?)?;
     }
     Ok(())
 }

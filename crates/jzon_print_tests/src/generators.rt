@@ -98,6 +98,14 @@ impl<W> TabGenerator<W> {
     }
 }
 
+/// Writes the value, or its object, if it is one and `is_object`.
+fn write<G: Generator>(generator: &mut G, value: &JsonValue, is_object: bool) -> io::Result<()> {
+    match value.as_object() {
+        Some(object) if is_object => write_object(generator, object),
+        _ => write_json(generator, value),
+    }
+}
+
 /// What the generator writes of a text's value, and whether it is read back equal.
 fn goes_round(alloc: Global, source: &str) -> Result<(Vec<u8>, bool), Fail> {
     let value = parse(alloc, source)?;
@@ -118,7 +126,7 @@ fn reads_vertical_tabs(rt: HostRuntime) -> Tested {
 }
 
 /// The parts of texts: many elements, many entries in many objects, and many escapes.
-const LARGE: [[(&str, usize); 3]; 3] = [
+const LARGE: &[[(&str, usize); 3]] = &[
     [("[0", 1), (",0", 70000), ("]", 1)],
     [("[{}", 1), (",{\"a\":[],\"b\":{}}", 70000), ("]", 1)],
     [("{\"\\n\":\"", 1), ("a\\u0001", 70000), ("\"}", 1)],
@@ -127,28 +135,33 @@ const LARGE: [[(&str, usize); 3]; 3] = [
 #[test]
 fn reads_back_large_values(rt: HostRuntime) -> Tested {
     for parts in LARGE {
-        let text = joined(rt.alloc(), &parts)?;
+        let text = joined(rt.alloc(), parts)?;
         let (_, is_equal) = goes_round(rt.alloc(), text.as_str())?;
         expect(&rt, "read back", is_equal);
     }
     Ok(())
 }
 
+/// A text, whether its object is written alone, what is written after it, how many indents are open
+/// then, and how many faults are counted.
+const ORDERED: &[(&str, bool, &[u8], u64, u64)] = &[
+    ("[[1,{}]]", false, b"[\x0b[\x0b1,\x0b", 2, 1),
+    ("{}", true, b"[\x0b[\x0b1,\x0b", 2, 2),
+];
+
 /// What was written before the object stays, and one fault is counted.
 #[test]
 fn returns_the_error_of_order(rt: HostRuntime) -> Tested {
-    let alloc = rt.alloc();
-    let mut generator = TabGenerator::new(Vec::new(alloc));
+    let mut generator = TabGenerator::new(Vec::new(rt.alloc()));
     generator.has_order = false;
-    let outcome = write_json(&mut generator, &parse(alloc, "[[1,{}]]")?);
-    expect_trouble(&rt, outcome, ORDERLESS)?;
-    let written = b"[\x0b[\x0b1,\x0b".as_slice();
-    expect_eq(&rt, "the bytes", generator.writer.as_slice(), written);
-    expect_eq(&rt, "the indents", generator.dent, 2);
-    expect_eq(&rt, "the faults", generator.faults, 1);
-    let outcome = write_object(&mut generator, &Object::new(alloc));
-    expect_trouble(&rt, outcome, ORDERLESS)?;
-    expect_eq(&rt, "the faults", generator.faults, 2);
+    for (text, is_object, written, dent, faults) in ORDERED {
+        let value = parse(rt.alloc(), text)?;
+        let outcome = write(&mut generator, &value, *is_object);
+        expect_trouble(&rt, outcome, ORDERLESS)?;
+        expect_eq(&rt, "the bytes", generator.writer.as_slice(), *written);
+        expect_eq(&rt, "the indents", generator.dent, *dent);
+        expect_eq(&rt, "the faults", generator.faults, *faults);
+    }
     Ok(())
 }
 
@@ -239,20 +252,21 @@ impl<G: Generator> Generator for Counting<G> {
     ghost style_law = { λ g. G.style_law g.inner };
 }
 
-/// The value has this text, each byte of which is counted, and `write` is called `writes` times.
+/// The value has this text, each byte of which is counted; `write` is called `writes` times, and
+/// `write_char` as often as is returned.
 fn expect_counted(
     rt: &impl Abort,
     alloc: Global,
     value: &JsonValue,
     text: &str,
     writes: usize,
-) -> Tested {
+) -> Result<usize, Fail> {
     let mut generator = Counting::new(DumpGenerator::new(alloc));
     write_json(&mut generator, value)?;
-    expect_bytes(rt, generator.get_writer(), text);
+    expect_bytes(rt, generator.inner.get_writer(), text);
     expect_eq(rt, text, generator.count, text.len());
     expect_eq(rt, text, generator.writes, writes);
-    Ok(())
+    Ok(generator.chars)
 }
 
 /// A string, its text, and the calls of `write`: the bytes before the first escape, then in turn
@@ -276,7 +290,8 @@ fn counts_strings_and_numbers(rt: HostRuntime) -> Tested {
         let number = Number::from_parts_unchecked(*positive, *mantissa, *exponent);
         expect_counted(&rt, alloc, &JsonValue::Number(number), text, 1)?;
     }
-    expect_counted(&rt, alloc, &JsonValue::Number(NAN), "null", 1)
+    expect_counted(&rt, alloc, &JsonValue::Number(NAN), "null", 1)?;
+    Ok(())
 }
 
 /// The provided hooks take a string of any length.
@@ -285,19 +300,19 @@ fn counts_a_long_string(rt: HostRuntime) -> Tested {
     let alloc = rt.alloc();
     let string = joined(alloc, &[("plain", 40000)])?;
     let text = joined(alloc, &[("\"", 1), ("plain", 40000), ("\"", 1)])?;
-    expect_counted(&rt, alloc, &JsonValue::String(string), text.as_str(), 2)
+    expect_counted(&rt, alloc, &JsonValue::String(string), text.as_str(), 2)?;
+    Ok(())
 }
 
 /// Each comma and each bracket is a call of `write_char`.
 #[test]
 fn counts_containers(rt: HostRuntime) -> Tested {
     let array = numbers(rt.alloc(), &[1, 20])?;
-    expect_counted(&rt, rt.alloc(), &array, "[1,20]", 2)?;
-    let mut generator = Counting::new(DumpGenerator::new(rt.alloc()));
-    write_json(&mut generator, &array)?;
-    expect_eq(&rt, "write_char", generator.chars, 3);
+    let chars = expect_counted(&rt, rt.alloc(), &array, "[1,20]", 2)?;
+    expect_eq(&rt, "write_char", chars, 3);
     let object = empty_containers(rt.alloc())?;
-    expect_counted(&rt, rt.alloc(), &object, "{\"a\":[],\"b\":{}}", 6)
+    expect_counted(&rt, rt.alloc(), &object, "{\"a\":[],\"b\":{}}", 6)?;
+    Ok(())
 }
 
 const TOO_DEEP: Trouble = Trouble::FailsBySystem(5);
@@ -423,16 +438,21 @@ const CALLED: &[(&str, &str)] = &[
     ("{\"a\":[],\"b\":{\"c\":null}}", "o{+ls:w,ls:o{+ls:w-l}-l}"),
 ];
 
-fn expect_called(rt: &impl Tester, text: &str, hooks: &str) -> Tested {
-    let alloc = rt.alloc();
-    let value = parse(alloc, text)?;
+/// The hooks that are called for the value, or for its object, if it is one and `is_object`, where
+/// this many indents are open; and the outcome.
+fn noted(alloc: Global, dent: u64, value: &JsonValue, is_object: bool) -> (String, io::Result<()>) {
     let mut generator = Noting::new(alloc, DumpGenerator::new(alloc));
-    write_json(&mut generator, &value)?;
-    expect_eq(rt, text, generator.calls.as_str(), hooks);
-    if let Some(object) = value.as_object() {
-        let mut generator = Noting::new(alloc, DumpGenerator::new(alloc));
-        write_object(&mut generator, object)?;
-        expect_eq(rt, text, generator.calls.as_str(), hooks);
+    generator.inner.set_dent(dent);
+    let outcome = write(&mut generator, value, is_object);
+    (generator.calls, outcome)
+}
+
+fn expect_called(rt: &impl Tester, text: &str, hooks: &str) -> Tested {
+    let value = parse(rt.alloc(), text)?;
+    for is_object in [false, true] {
+        let (calls, outcome) = noted(rt.alloc(), 0, &value, is_object);
+        outcome?;
+        expect_eq(rt, text, calls.as_str(), hooks);
     }
     Ok(())
 }
@@ -445,16 +465,17 @@ fn calls_hooks_in_order(rt: HostRuntime) -> Tested {
     Ok(())
 }
 
+/// A text, and the hooks that are called for its value where no indent more may be open.
+const STOPPED: &[(&str, &str)] = &[("[1]", "[+"), ("{\"a\":1}", "o{+")];
+
 /// Where no indent more may be open, the error is that of the hook, and no hook is called after it.
 #[test]
 fn returns_the_error_of_indent(rt: HostRuntime) -> Tested {
-    let alloc = rt.alloc();
-    for (text, hooks) in [("[1]", "[+"), ("{\"a\":1}", "o{+")] {
-        let mut generator = Noting::new(alloc, DumpGenerator::new(alloc));
-        generator.set_dent(u64::MAX);
-        let outcome = write_json(&mut generator, &parse(alloc, text)?);
+    for (text, hooks) in STOPPED {
+        let value = parse(rt.alloc(), text)?;
+        let (calls, outcome) = noted(rt.alloc(), u64::MAX, &value, false);
         expect_trouble(&rt, outcome, TOO_DEEP)?;
-        expect_eq(&rt, text, generator.calls.as_str(), hooks);
+        expect_eq(&rt, text, calls.as_str(), hooks);
     }
     Ok(())
 }

@@ -50,38 +50,49 @@ const QUOTED: &str = "\"0123456789abcdef0123456789abcdef01234567\"";
 /// Calls the hook once; before `dedent` it sets 7 open indents. The value is an object.
 fn call<G: Generator>(generator: &mut G, hook: Hook, value: &JsonValue) -> io::Result<()> {
     match hook {
-        Hook::Write => generator.write(b"ab")?,
-        Hook::WriteChar => generator.write_char(b'c')?,
-        Hook::WriteMin => generator.write_min(b": ", b':')?,
-        Hook::WriteString => generator.write_string("d\n")?,
-        Hook::WritePlainString => generator.write_string(PLAIN)?,
-        Hook::WriteStringComplex => generator.write_string_complex("e\"f", 1)?,
-        Hook::EscapeFrom2 => generator.write_string_complex("ab\"c", 2)?,
-        Hook::EscapeFrom3 => generator.write_string_complex("ab\"c", 3)?,
+        Hook::Write => generator.write(b"ab"),
+        Hook::WriteChar => generator.write_char(b'c'),
+        Hook::WriteMin => generator.write_min(b": ", b':'),
+        Hook::WriteString => generator.write_string("d\n"),
+        Hook::WritePlainString => generator.write_string(PLAIN),
+        Hook::WriteStringComplex => generator.write_string_complex("e\"f", 1),
+        Hook::EscapeFrom2 => generator.write_string_complex("ab\"c", 2),
+        Hook::EscapeFrom3 => generator.write_string_complex("ab\"c", 3),
         Hook::WriteNumber => {
-            generator.write_number(&Number::from_parts_unchecked(false, 125, -1))?
+            generator.write_number(&Number::from_parts_unchecked(false, 125, -1))
         }
-        Hook::GetWriter => write_bytes(generator.get_writer(), b"g")?,
-        Hook::NewLine => generator.new_line()?,
-        Hook::Order => assert_order(generator.order(object_of(value)?)?)?,
-        Hook::Indent => generator.indent()?,
+        Hook::GetWriter => write_bytes(generator.get_writer(), b"g"),
+        Hook::NewLine => generator.new_line(),
+        Hook::Indent => generator.indent(),
+        Hook::WriteJson => write_json(generator, value),
+        Hook::Order | Hook::WriteObject => call_on(generator, hook, object_of(value)?),
+        Hook::Dedent | Hook::SetDent | Hook::NoteFault => {
+            count(generator, hook);
+            Ok(())
+        }
+    }
+}
+
+/// The hook `order`, which must give the order of insertion; or `write_object`.
+fn call_on<G: Generator>(generator: &mut G, hook: Hook, object: &Object) -> io::Result<()> {
+    if !matches!(hook, Hook::Order) {
+        return write_object(generator, object);
+    }
+    match generator.order(object)? {
+        None => Ok(()),
+        Some(_) => Err(io::Error::from(ErrorKind::Other)),
+    }
+}
+
+/// A hook that writes nothing.
+fn count<G: Generator>(generator: &mut G, hook: Hook) {
+    match hook {
         Hook::Dedent => {
             generator.set_dent(7);
             generator.dedent()
         }
         Hook::SetDent => generator.set_dent(9),
-        Hook::NoteFault => generator.note_fault(),
-        Hook::WriteJson => write_json(generator, value)?,
-        Hook::WriteObject => write_object(generator, object_of(value)?)?,
-    }
-    Ok(())
-}
-
-/// The order of insertion.
-fn assert_order(order: Option<Vec<usize>>) -> io::Result<()> {
-    match order {
-        None => Ok(()),
-        Some(_) => Err(io::Error::from(ErrorKind::Other)),
+        _ => generator.note_fault(),
     }
 }
 
@@ -96,7 +107,7 @@ fn object_of(value: &JsonValue) -> io::Result<&Object> {
 /// of indents and of faults after it, where two indents were open before.
 type Row = (Hook, &'static str, &'static str, u64, u64);
 
-const ROWS: [Row; 16] = [
+const ROWS: &[Row] = &[
     (Hook::Write, "ab", "ab", 2, 0),
     (Hook::WriteChar, "c", "c", 2, 0),
     (Hook::WriteMin, ":", ": ", 2, 0),
@@ -181,8 +192,8 @@ fn expect_in_memory<L: Layout + Copy + Drop>(
 #[test]
 fn hooks_over_memory_under_refusals(rt: HostRuntime) -> Tested {
     for row in ROWS {
-        expect_in_memory(&rt, rt.alloc(), Compact, row, row.1)?;
-        expect_in_memory(&rt, rt.alloc(), Pretty(1), row, row.2)?;
+        expect_in_memory(&rt, rt.alloc(), Compact, *row, row.1)?;
+        expect_in_memory(&rt, rt.alloc(), Pretty(1), *row, row.2)?;
     }
     Ok(())
 }
@@ -197,7 +208,7 @@ enum Over {
     Tabs,
 }
 
-const OVERS: [Over; 5] = [
+const OVERS: &[Over] = &[
     Over::Compact,
     Over::Pretty,
     Over::Counting,
@@ -282,7 +293,7 @@ fn hooks_over_a_failing_writer(rt: HostRuntime) -> Tested {
     for over in OVERS {
         for row in ROWS {
             for trouble in FAILURES {
-                expect_failures(&rt, rt.alloc(), over, row, &value, trouble)?;
+                expect_failures(&rt, rt.alloc(), *over, *row, &value, *trouble)?;
             }
         }
     }
@@ -296,7 +307,7 @@ const ON_LINES: &str = "{\n   \"a\": [\n    1,\n    20\n   ],\n   \"b\\n\": null
 
 const WITH_TABS: &str = "{\u{b}\"a\":[\u{b}1,\u{b}20\u{b}],\u{b}\"b\\n\":null\u{b}}";
 
-const PRINTED: [Row; 2] = [
+const PRINTED: &[Row] = &[
     (Hook::WriteJson, ON_ONE_LINE, ON_LINES, 2, 0),
     (Hook::WriteObject, ON_ONE_LINE, ON_LINES, 2, 0),
 ];
@@ -304,13 +315,11 @@ const PRINTED: [Row; 2] = [
 /// Also over a user's own generator the writer's own error is returned, whichever hook fails.
 #[test]
 fn write_json_over_a_failing_writer(rt: HostRuntime) -> Tested {
-    let mut value = JsonValue::new_object(rt.alloc());
-    value.insert(rt.alloc(), "a", numbers(rt.alloc(), &[1, 20])?)?;
-    value.insert(rt.alloc(), "b\n", JsonValue::Null)?;
+    let value = parse(rt.alloc(), ON_ONE_LINE)?;
     let trouble = Trouble::Fails(ErrorKind::BrokenPipe);
     for over in OVERS {
         for row in PRINTED {
-            expect_failures(&rt, rt.alloc(), over, row, &value, trouble)?;
+            expect_failures(&rt, rt.alloc(), *over, *row, &value, trouble)?;
         }
     }
     Ok(())
@@ -352,20 +361,28 @@ fn append_all<G: Generator>(generator: &mut G, string: &str) -> io::Result<()> {
     generator.write_char(b'.')
 }
 
+/// How the string ends, by each of these hooks.
+const ENDS: &[&str] = &["\"\"\"\"", "\\\"\\\"\\\"\"", "\"\\\"\\\"\""];
+
+/// What they append, where a line and the colon have these parts.
+fn appended(alloc: Global, line: &[(&str, usize)]) -> Result<String, AllocError> {
+    let mut text = String::new(alloc);
+    for end in ENDS {
+        text.push_str(joined(alloc, &[("plain", 40000), (end, 1)])?.as_str())?;
+    }
+    text.push_str(joined(alloc, line)?.as_str())?;
+    text.push_str("1.8446744073709551615e32786.")?;
+    Ok(text)
+}
+
 /// They append what the rules say, where a line and the colon have these parts.
 fn expect_all<G: Generator<T = Vec<u8>>>(
     rt: &impl Tester,
     generator: &mut G,
     line: &[(&str, usize)],
 ) -> Tested {
-    let alloc = rt.alloc();
-    append_all(generator, quotes_last(alloc)?.as_str())?;
-    let mut text = String::new(alloc);
-    for end in ["\"\"\"\"", "\\\"\\\"\\\"\"", "\"\\\"\\\"\""] {
-        text.push_str(joined(alloc, &[("plain", 40000), (end, 1)])?.as_str())?;
-    }
-    text.push_str(joined(alloc, line)?.as_str())?;
-    text.push_str("1.8446744073709551615e32786.")?;
+    append_all(generator, quotes_last(rt.alloc())?.as_str())?;
+    let text = appended(rt.alloc(), line)?;
     let written = generator.get_writer().as_slice() == text.as_bytes();
     expect(rt, "the bytes", written);
     expect(rt, "the indents", generator.dent() == u64::MAX);
@@ -391,19 +408,21 @@ fn hooks_take_long_arguments(rt: HostRuntime) -> Tested {
     expect_all(&rt, &mut PrettyWriterGenerator::new(&mut bytes, 3), &line)
 }
 
+/// The open indents, what is written of `[1]`, and how many faults are counted.
+const BELOW_THE_MOST: &[(u64, &str, u64)] = &[(u64::MAX - 1, "[1]", 0), (u64::MAX, "[", 1)];
+
 /// A value is written where one indent more may be open, and not where none may.
 #[test]
 fn writes_below_the_most_indents(rt: HostRuntime) -> Tested {
     let value = parse(rt.alloc(), "[1]")?;
-    for (dent, text, faults) in [(u64::MAX - 1, "[1]", 0), (u64::MAX, "[", 1)] {
+    for (dent, text, faults) in BELOW_THE_MOST {
         let mut generator = DumpGenerator::new(rt.alloc());
-        generator.set_dent(dent);
+        generator.set_dent(*dent);
         let outcome = write_json(&mut generator, &value);
-        expect_eq(&rt, text, outcome.is_ok(), faults == 0);
-        expect_eq(&rt, text, generator.faults(), faults);
-        expect_eq(&rt, text, generator.dent(), dent);
-        let written = generator.get_writer().as_slice();
-        expect_eq(&rt, text, written, text.as_bytes());
+        expect_eq(&rt, text, outcome.is_ok(), *faults == 0);
+        expect_eq(&rt, text, generator.faults(), *faults);
+        expect_eq(&rt, text, generator.dent(), *dent);
+        expect_bytes(&rt, generator.get_writer(), text);
     }
     Ok(())
 }

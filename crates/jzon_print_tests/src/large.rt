@@ -3,13 +3,11 @@
 //! those that make or print a value also at lengths that rise by a tenth and at 70,000, at long
 //! strings, at 70,000 escapes, at arrays and objects 1,100 deep, and at the widest indents.
 
-use crate::common::{LENGTHS, Tested, Tester, expect};
+use crate::common::{LENGTHS, Tested, Tester, display, expect, is_text, is_value, read_strictly};
 use crate::whole::{expect_held, expect_lines, expect_object, expect_printed, expect_whole};
 use jzon::lent::{write_at, write_at_index};
 use jzon::object::Object;
-use jzon::{
-    Error, IntoJson, JsonValue, Reading, Result, parse, parse_as, stringify, stringify_pretty,
-};
+use jzon::{Error, IntoJson, JsonValue, Result, parse, stringify, stringify_pretty};
 use jzon_test_support::{joined, keys_by_hash, object_text};
 use std::alloc::{AllocError, Global};
 use std::collections::{BTreeMap, HashMap};
@@ -55,7 +53,7 @@ type Spelling = [&'static str; 3];
 /// How often a string repeats its piece, how it is spelled, and how it is printed: 200,000 bytes that
 /// are written as they are, without and with escapes after them, and 200 and 350,000 bytes with an
 /// escape in every five.
-const STRINGS: [(u32, Spelling, Spelling); 4] = [
+const STRINGS: &[(u32, Spelling, Spelling)] = &[
     (40000, ["", "plain", ""], ["", "plain", ""]),
     (
         40000,
@@ -67,7 +65,7 @@ const STRINGS: [(u32, Spelling, Spelling); 4] = [
 ];
 
 /// Strings of each length: plain, and between escapes.
-const OF_EACH_LENGTH: [(Spelling, Spelling); 2] = [
+const OF_EACH_LENGTH: &[(Spelling, Spelling)] = &[
     (["", "p", ""], ["", "p", ""]),
     (["\n", "p", "\n"], ["\\n", "p", "\\n"]),
 ];
@@ -95,14 +93,30 @@ fn string_of(
 fn strings(alloc: Global) -> std::result::Result<Vec<(String, String)>, AllocError> {
     let mut strings = Vec::new(alloc);
     for (count, spelling, printed) in STRINGS {
-        strings.push(string_of(alloc, count, spelling, printed)?)?;
+        strings.push(string_of(alloc, *count, *spelling, *printed)?)?;
     }
     for len in LENGTHS {
         for (spelling, printed) in OF_EACH_LENGTH {
-            strings.push(string_of(alloc, u32::from(len), spelling, printed)?)?;
+            strings.push(string_of(alloc, u32::from(*len), *spelling, *printed)?)?;
         }
     }
     Ok(strings)
+}
+
+/// Whether this string is taken from the value of the text.
+fn is_taken(alloc: Global, string: &str, text: &str) -> Result<bool> {
+    let taken = parse(alloc, text)?.take_string(alloc)?;
+    Ok(taken.as_deref() == Some(string))
+}
+
+/// Whether the text is rejected after a bracket that isn't closed.
+fn is_cut(alloc: Global, text: &str) -> Result<bool> {
+    let cut = joined(alloc, &[("[", 1), (text, 1)])?;
+    Ok(parse(alloc, cut.as_str()).is_err())
+}
+
+fn owned_string(alloc: Global, string: &str) -> Result<JsonValue> {
+    String::from_str(alloc, string)?.into_json(alloc)
 }
 
 /// Each call that makes, takes or prints a string does so with this one. A text that ends after the
@@ -110,16 +124,12 @@ fn strings(alloc: Global) -> std::result::Result<Vec<(String, String)>, AllocErr
 fn expect_string(rt: &impl Tester, string: &str, text: &str) -> Tested {
     let alloc = rt.alloc();
     expect_whole(rt, &string.into_json(alloc)?, text)?;
-    let owned = String::from_str(alloc, string)?;
-    expect_whole(rt, &owned.into_json(alloc)?, text)?;
-    let printed = stringify(alloc, string)?;
-    expect(rt, "stringify", printed.as_str() == text);
-    let printed = stringify_pretty(alloc, string, 2)?;
-    expect(rt, "stringify_pretty", printed.as_str() == text);
-    let taken = parse(alloc, text)?.take_string(alloc)?;
-    expect(rt, "take_string", taken.as_deref() == Some(string));
-    let cut = joined(alloc, &[("[", 1), (text, 1)])?;
-    expect(rt, "no end", parse(alloc, cut.as_str()).is_err());
+    expect_whole(rt, &owned_string(alloc, string)?, text)?;
+    expect(rt, "stringify", is_text(stringify(alloc, string), text));
+    let printed = stringify_pretty(alloc, string, 2);
+    expect(rt, "stringify_pretty", is_text(printed, text));
+    expect(rt, "take_string", is_taken(alloc, string, text)?);
+    expect(rt, "no end", is_cut(alloc, text)?);
     Ok(())
 }
 
@@ -164,7 +174,7 @@ enum ArrayBy {
     WriteAtIndex,
 }
 
-const ARRAYS: [ArrayBy; 5] = [
+const ARRAYS: &[ArrayBy] = &[
     ArrayBy::Slice,
     ArrayBy::List,
     ArrayBy::Push,
@@ -203,20 +213,20 @@ impl ArrayBy {
     }
 }
 
-fn expect_long_array(rt: &impl Tester, mut array: JsonValue, text: &str) -> Tested {
-    expect_whole(rt, &array, text)?;
+fn expect_long_array(rt: &impl Tester, mut array: JsonValue) {
     expect(rt, "pop", array.pop().eq_u64(1099));
     expect(rt, "array_remove", array.array_remove(500).eq_u64(500));
     expect(rt, "the length", array.len() == 1098);
     expect(rt, "at_index", array.at_index(500).eq_u64(501));
-    Ok(())
 }
 
 #[test]
 fn long_arrays(rt: HostRuntime) -> Tested {
     let text = numbers_text(rt.alloc(), COUNT, false)?;
     for call in ARRAYS {
-        expect_long_array(&rt, call.array(rt.alloc(), COUNT)?, text.as_str())?;
+        let array = call.array(rt.alloc(), COUNT)?;
+        expect_whole(&rt, &array, text.as_str())?;
+        expect_long_array(&rt, array);
     }
     Ok(())
 }
@@ -225,7 +235,8 @@ fn long_arrays(rt: HostRuntime) -> Tested {
 fn expect_elements(rt: &impl Tester, count: u32) -> Tested {
     let whole = parse(rt.alloc(), numbers_text(rt.alloc(), count, false)?.as_str())?;
     for call in ARRAYS {
-        expect(rt, "the whole", call.array(rt.alloc(), count)? == whole);
+        let is_whole = is_value(call.array(rt.alloc(), count), &whole);
+        expect(rt, "the whole", is_whole);
     }
     Ok(())
 }
@@ -233,7 +244,7 @@ fn expect_elements(rt: &impl Tester, count: u32) -> Tested {
 #[test]
 fn many_elements(rt: HostRuntime) -> Tested {
     for count in LENGTHS {
-        expect_elements(&rt, u32::from(count))?;
+        expect_elements(&rt, u32::from(*count))?;
     }
     expect_elements(&rt, MANY)?;
     let text = numbers_text(rt.alloc(), MANY, false)?;
@@ -243,23 +254,30 @@ fn many_elements(rt: HostRuntime) -> Tested {
 /// Copies of the value equal it, and it prints this text.
 fn expect_text(rt: &impl Tester, value: &JsonValue, text: &str) -> Tested {
     let alloc = rt.alloc();
-    expect(rt, "clone", value.clone(alloc)? == *value);
-    expect(rt, "dump", value.dump(alloc)?.as_str() == text);
-    let shown = format!(in alloc; "{value}")?;
-    expect(rt, "Display", shown.as_str() == text);
+    expect(rt, "clone", is_value(value.clone(alloc), value));
+    expect(rt, "dump", is_text(value.dump(alloc), text));
+    expect(rt, "Display", is_text(display(alloc, value), text));
     let mut bytes: Vec<u8> = Vec::new(alloc);
     value.write(&mut bytes)?;
     expect(rt, "write", bytes.as_slice() == text.as_bytes());
     Ok(())
 }
 
+/// The call returned a container of this length.
+fn has_length(found: Result<JsonValue>, len: usize) -> bool {
+    match found {
+        Ok(found) => found.len() == len,
+        Err(_) => false,
+    }
+}
+
 /// The text is read as a container of this length, also strictly, and also inside an array, which is
 /// copied and printed.
 fn expect_length(rt: &impl Tester, text: &str, len: usize) -> Tested {
     let alloc = rt.alloc();
-    let strict = Reading::new(true, 512).unwrap();
-    expect(rt, "parse", parse(alloc, text)?.len() == len);
-    expect(rt, "parse_as", parse_as(alloc, text, &strict)?.len() == len);
+    expect(rt, "parse", has_length(parse(alloc, text), len));
+    let read = read_strictly(alloc, text);
+    expect(rt, "parse_as", has_length(read, len));
     let outer = joined(alloc, &[("[0,", 1), (text, 1), (",0]", 1)])?;
     let value = parse(alloc, outer.as_str())?;
     expect(rt, "inside", value.at_index(1).len() == len);
@@ -279,8 +297,11 @@ fn expect_containers(rt: &impl Tester, count: u32) -> Tested {
 /// Also at a length that needs a third byte.
 #[test]
 fn arrays_and_objects_of_each_length(rt: HostRuntime) -> Tested {
-    for count in (1..=300).chain(LENGTHS) {
-        expect_containers(&rt, u32::from(count))?;
+    for count in 1..=300 {
+        expect_containers(&rt, count)?;
+    }
+    for count in LENGTHS {
+        expect_containers(&rt, u32::from(*count))?;
     }
     expect_containers(&rt, 65537)
 }
@@ -301,19 +322,25 @@ fn nested(alloc: Global) -> Result<[JsonValue; 2]> {
     Ok([array, object])
 }
 
+fn expect_deep(
+    rt: &impl Tester,
+    value: &JsonValue,
+    open: &'static str,
+    close: &'static str,
+) -> Tested {
+    let text = joined(rt.alloc(), &[(open, DEPTH), ("1", 1), (close, DEPTH)])?;
+    let outcome = parse(rt.alloc(), text.as_str());
+    let is_too_deep = matches!(outcome, Err(Error::ExceededDepthLimit));
+    expect(rt, "parse", is_too_deep);
+    expect_printed(rt, value, text.as_str())
+}
+
 /// The values are copied and printed, but their texts aren't read.
 #[test]
 fn deep_values(rt: HostRuntime) -> Tested {
-    let alloc = rt.alloc();
-    let [array, object] = nested(alloc)?;
-    for (value, open, close) in [(array, "[", "]"), (object, "{\"a\":", "}")] {
-        let text = joined(alloc, &[(open, DEPTH), ("1", 1), (close, DEPTH)])?;
-        expect_printed(&rt, &value, text.as_str())?;
-        let outcome = parse(alloc, text.as_str());
-        let is_too_deep = matches!(outcome, Err(Error::ExceededDepthLimit));
-        expect(&rt, "parse", is_too_deep);
-    }
-    Ok(())
+    let [array, object] = nested(rt.alloc())?;
+    expect_deep(&rt, &array, "[", "]")?;
+    expect_deep(&rt, &object, "{\"a\":", "}")
 }
 
 /// Three open containers, with this number of spaces for each.
@@ -322,16 +349,18 @@ fn expect_spaces(rt: &impl Tester, spaces: u16) -> Tested {
     let value = parse(alloc, "[[[1]]]")?;
     let i = joined(alloc, &[(" ", usize::from(spaces))])?;
     let text = format!(in alloc; "[\n{i}[\n{i}{i}[\n{i}{i}{i}1\n{i}{i}]\n{i}]\n]")?;
-    expect_lines(rt, &value, spaces, text.as_str())?;
-    expect(rt, "parse", parse(alloc, text.as_str())? == value);
-    Ok(())
+    expect(rt, "parse", is_value(parse(alloc, text.as_str()), &value));
+    expect_lines(rt, &value, spaces, text.as_str())
 }
 
 /// Also with the most spaces.
 #[test]
 fn the_widest_indents(rt: HostRuntime) -> Tested {
-    for spaces in (0..=300).chain(LENGTHS) {
+    for spaces in 0..=300 {
         expect_spaces(&rt, spaces)?;
+    }
+    for spaces in LENGTHS {
+        expect_spaces(&rt, *spaces)?;
     }
     expect_spaces(&rt, u16::MAX)
 }
@@ -353,7 +382,7 @@ enum ObjectBy {
     OwnedHashMap,
 }
 
-const OBJECTS: [ObjectBy; 9] = [
+const OBJECTS: &[ObjectBy] = &[
     ObjectBy::Insert,
     ObjectBy::AtMut,
     ObjectBy::WriteAt,
@@ -366,7 +395,7 @@ const OBJECTS: [ObjectBy; 9] = [
 ];
 
 /// They make an object with its entries in any order.
-const UNORDERED: [ObjectBy; 2] = [ObjectBy::HashMap, ObjectBy::OwnedHashMap];
+const UNORDERED: &[ObjectBy] = &[ObjectBy::HashMap, ObjectBy::OwnedHashMap];
 
 type Pairs<'a> = Vec<(&'a str, u32)>;
 
@@ -477,8 +506,13 @@ fn expect_many_entries(rt: &impl Tester, count: u32) -> Tested {
     let alloc = rt.alloc();
     let names = names(alloc, count)?;
     let whole = parse(alloc, numbers_text(alloc, count, true)?.as_str())?;
-    for call in OBJECTS.into_iter().chain(UNORDERED) {
-        expect(rt, "the whole", call.object(alloc, &names)? == whole);
+    for call in OBJECTS {
+        let is_whole = is_value(call.object(alloc, &names), &whole);
+        expect(rt, "the whole", is_whole);
+    }
+    for call in UNORDERED {
+        let is_whole = is_value(call.object(alloc, &names), &whole);
+        expect(rt, "the whole", is_whole);
     }
     Ok(())
 }
@@ -486,7 +520,7 @@ fn expect_many_entries(rt: &impl Tester, count: u32) -> Tested {
 #[test]
 fn many_entries(rt: HostRuntime) -> Tested {
     for count in LENGTHS {
-        expect_many_entries(&rt, u32::from(count))?;
+        expect_many_entries(&rt, u32::from(*count))?;
     }
     expect_many_entries(&rt, MANY)
 }

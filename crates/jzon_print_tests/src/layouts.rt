@@ -7,7 +7,7 @@ ghost use Rattle.jzon.specs.Generator.{insertion};
 ghost use Rattle.jzon.specs.StyleLaws.{IsStyle-any};
 ghost use Rattle.jzon.specs.Writing.{any_style, IsOrder};
 
-use crate::common::{Tested, Tester, expect, expect_bytes, expect_eq};
+use crate::common::{Tested, Tester, expect, expect_bytes, expect_eq, is_text};
 use crate::outlets::{Buffer, Plain};
 use jzon::codegen::{Generator, Layout, TextGenerator, write_json, write_object};
 use jzon::object::Object;
@@ -119,7 +119,7 @@ enum Call {
 }
 
 /// No text of a test is as long as the last buffer.
-const CALLS: [Call; 7] = [
+const CALLS: &[Call] = &[
     Call::LayOut,
     Call::WriteLayout,
     Call::InMemory,
@@ -197,7 +197,7 @@ const SPACIOUS: &str = "{\n  \"c\": null,\n  \"b\": null,\n  \"a\": null\n}";
 const SORTED_LINES: &str = "{\n\"a\": null,\n\"b\": null,\n\"c\": null\n}";
 
 /// What is printed in an order with this number of spaces.
-const LAID_OUT: [(Order, Option<u16>, &str); 5] = [
+const LAID_OUT: &[(Order, Option<u16>, &str)] = &[
     (Order::Insertion, None, UNSORTED),
     (Order::Insertion, Some(2), SPACIOUS),
     (Order::Sorted, None, SORTED),
@@ -214,8 +214,8 @@ fn writes_in_a_layout(rt: HostRuntime) -> Tested {
     let asked = Cell::new(0);
     for (order, spaces, text) in LAID_OUT {
         let layout = Own {
-            spaces,
-            ..in_order(alloc, order, &asked)
+            spaces: *spaces,
+            ..in_order(alloc, *order, &asked)
         };
         expect_laid_out(&rt, alloc, &value, layout, text)?;
         let mut writer = SlowWriter::new(alloc, 6, BROKEN);
@@ -329,30 +329,34 @@ fn is_out_of_memory(outcome: io::Result<()>) -> bool {
     outcome.is_err_and(|error| error.kind() == ErrorKind::OutOfMemory)
 }
 
+/// Each call fails in this layout after the start of the array.
+fn expect_failed_order(rt: &impl Tester, value: &JsonValue, layout: Own<'_>) -> Tested {
+    for call in CALLS {
+        let (bytes, outcome) = call.print(rt.alloc(), value, layout)?;
+        expect(rt, "the error", is_out_of_memory(outcome));
+        let is_lent = !matches!(call, Call::LayOut);
+        expect_bytes(rt, &bytes, if is_lent { "[" } else { "" });
+    }
+    Ok(())
+}
+
 /// Each call that prints returns the error of a failed allocation where `order` fails, after what
 /// was written before that object.
 #[test]
 fn propagates_a_failed_order(rt: HostRuntime) -> Tested {
-    let alloc = rt.alloc();
     let asked = Cell::new(0);
-    let layout = in_order(alloc, Order::Failing, &asked);
-    let object = unsorted(alloc)?;
-    let mut generator = TextGenerator::in_memory(alloc, layout);
+    let layout = in_order(rt.alloc(), Order::Failing, &asked);
+    let object = unsorted(rt.alloc())?;
+    let mut generator = TextGenerator::in_memory(rt.alloc(), layout);
     let result = write_object(&mut generator, &object);
     expect(&rt, "write_object", is_out_of_memory(result));
     expect_eq(&rt, "one fault", generator.faults(), 1);
-    let value = JsonValue::Array(vec![in alloc; JsonValue::Object(object)]?);
+    let value = JsonValue::Array(vec![in rt.alloc(); JsonValue::Object(object)]?);
     let result = write_json(&mut generator, &value);
     expect(&rt, "write_json", is_out_of_memory(result));
     expect_eq(&rt, "two faults", generator.faults(), 2);
     expect_bytes(&rt, generator.get_writer(), "[");
-    for call in CALLS {
-        let (bytes, outcome) = call.print(alloc, &value, layout)?;
-        expect(&rt, "the error", is_out_of_memory(outcome));
-        let is_lent = !matches!(call, Call::LayOut);
-        expect_bytes(&rt, &bytes, if is_lent { "[" } else { "" });
-    }
-    Ok(())
+    expect_failed_order(&rt, &value, layout)
 }
 
 /// A layout that owns memory. A space is before each element for each open container.
@@ -380,18 +384,21 @@ fn new_layout(alloc: Global) -> Result<Owning, AllocError> {
 /// Each call that takes a layout, to memory, to a writer that fails, and to an outlet.
 fn lay_out(rt: &impl Tester, value: &JsonValue) -> Tested {
     let alloc = rt.alloc();
-    let text = value.lay_out(alloc, new_layout(alloc)?)?;
-    expect(rt, "lay_out", text.as_str() == "[\n 1\n]");
+    let text = value.lay_out(alloc, new_layout(alloc)?);
+    expect(rt, "lay_out", is_text(text, "[\n 1\n]"));
     let mut writer = SlowWriter::new(alloc, 3, Trouble::TakesNothing);
     let outcome = value.write_layout(&mut writer, new_layout(alloc)?);
     expect(rt, "write_layout", outcome.is_err());
-    let mut bytes: Vec<u8> = Vec::new(alloc);
-    value.write_outlet(&mut Plain(&mut bytes), new_layout(alloc)?)?;
-    let want = b"[\n 1\n]".as_slice();
-    expect_eq(rt, "write_outlet", bytes.as_slice(), want);
-    let mut generator = TextGenerator::in_memory(alloc, new_layout(alloc)?);
+    lay_out_whole(rt, value)
+}
+
+fn lay_out_whole(rt: &impl Tester, value: &JsonValue) -> Tested {
+    let mut bytes: Vec<u8> = Vec::new(rt.alloc());
+    value.write_outlet(&mut Plain(&mut bytes), new_layout(rt.alloc())?)?;
+    expect_bytes(rt, &bytes, "[\n 1\n]");
+    let mut generator = TextGenerator::in_memory(rt.alloc(), new_layout(rt.alloc())?);
     write_json(&mut generator, value)?;
-    expect(rt, "consume", generator.consume()?.as_str() == "[\n 1\n]");
+    expect(rt, "consume", is_text(generator.consume(), "[\n 1\n]"));
     Ok(())
 }
 

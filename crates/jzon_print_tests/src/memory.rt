@@ -15,9 +15,9 @@ use std::process::Abort;
 use std::test::Fail;
 use std::{fmt, io};
 
-/// A call that prints into memory.
+/// A call that prints into memory, some with a number of spaces for each open container.
 #[derive(Clone, Copy)]
-enum Writing {
+pub enum Writing {
     Dump,
     Pretty,
     ObjectDump,
@@ -29,6 +29,8 @@ enum Writing {
     Write,
     WritePretty,
     WriteLayout,
+    WriterGenerator,
+    PrettyWriterGenerator,
     Stringify,
     StringifyPretty,
 }
@@ -42,10 +44,10 @@ fn of_memory(outcome: io::Result<()>) -> Result<()> {
     }
 }
 
-fn object_text(call: Writing, value: &JsonValue, alloc: Global) -> Result<String> {
+fn object_text(call: Writing, value: &JsonValue, alloc: Global, spaces: u16) -> Result<String> {
     match (call, value.as_object()) {
         (Writing::ObjectDump, Some(object)) => object.dump(alloc),
-        (_, Some(object)) => object.pretty(alloc, 2),
+        (_, Some(object)) => object.pretty(alloc, spaces),
         _ => Err(Error::UnexpectedEndOfJson),
     }
 }
@@ -56,8 +58,8 @@ fn dumped(value: &JsonValue, alloc: Global) -> Result<String> {
     generator.consume()
 }
 
-fn prettified(value: &JsonValue, alloc: Global) -> Result<String> {
-    let mut generator = PrettyGenerator::new(alloc, 2);
+pub fn prettified(value: &JsonValue, alloc: Global, spaces: u16) -> Result<String> {
+    let mut generator = PrettyGenerator::new(alloc, spaces);
     of_memory(write_json(&mut generator, value))?;
     generator.consume()
 }
@@ -69,30 +71,44 @@ fn text_of(bytes: Vec<u8>) -> Result<String> {
     }
 }
 
-fn written(call: Writing, value: &JsonValue, alloc: Global) -> Result<String> {
+/// By a call that takes a writer.
+pub fn write<W: io::Write>(
+    call: Writing,
+    value: &JsonValue,
+    writer: &mut W,
+    spaces: u16,
+) -> io::Result<()> {
+    match call {
+        Writing::Write => value.write(writer),
+        Writing::WritePretty => value.write_pretty(writer, spaces),
+        Writing::WriterGenerator => write_json(&mut WriterGenerator::new(writer), value),
+        Writing::PrettyWriterGenerator => {
+            write_json(&mut PrettyWriterGenerator::new(writer, spaces), value)
+        }
+        _ => value.write_layout(writer, Pretty(spaces)),
+    }
+}
+
+fn written(call: Writing, value: &JsonValue, alloc: Global, spaces: u16) -> Result<String> {
     let mut bytes = Vec::new(alloc);
-    of_memory(match call {
-        Writing::Write => value.write(&mut bytes),
-        Writing::WritePretty => value.write_pretty(&mut bytes, 2),
-        _ => value.write_layout(&mut bytes, Pretty(2)),
-    })?;
+    of_memory(write(call, value, &mut bytes, spaces))?;
     text_of(bytes)
 }
 
 impl Writing {
     /// What is printed of the value, which `stringify` takes.
-    fn print(self, value: &mut JsonValue, alloc: Global) -> Result<String> {
+    pub fn print(self, value: &mut JsonValue, alloc: Global, spaces: u16) -> Result<String> {
         match self {
             Writing::Dump => value.dump(alloc),
-            Writing::Pretty => value.pretty(alloc, 2),
-            Writing::ObjectDump | Writing::ObjectPretty => object_text(self, value, alloc),
+            Writing::Pretty => value.pretty(alloc, spaces),
+            Writing::ObjectDump | Writing::ObjectPretty => object_text(self, value, alloc, spaces),
             Writing::LayOut => value.lay_out(alloc, Compact),
-            Writing::PrettyLayOut => value.lay_out(alloc, Pretty(2)),
+            Writing::PrettyLayOut => value.lay_out(alloc, Pretty(spaces)),
             Writing::DumpGenerator => dumped(value, alloc),
-            Writing::PrettyGenerator => prettified(value, alloc),
+            Writing::PrettyGenerator => prettified(value, alloc, spaces),
             Writing::Stringify => stringify(alloc, value.take()),
-            Writing::StringifyPretty => stringify_pretty(alloc, value.take(), 2),
-            _ => written(self, value, alloc),
+            Writing::StringifyPretty => stringify_pretty(alloc, value.take(), spaces),
+            _ => written(self, value, alloc, spaces),
         }
     }
 }
@@ -141,7 +157,7 @@ fn write_once(
 ) -> std::result::Result<bool, Fail> {
     let mut value = before.clone(alloc)?;
     refusals.begin();
-    let outcome = call.print(&mut value, alloc);
+    let outcome = call.print(&mut value, alloc, 2);
     let has_failed = refusals.has_failed();
     match outcome {
         Ok(found) => expect(rt, name, !has_failed && found.as_str() == text),
@@ -217,7 +233,7 @@ fn texts_counted(rt: HostRuntime) -> Tested {
         let mut value = parse(alloc, LONG_DOCUMENT)?;
         let mut refusals = Refusals::new(alloc);
         refusals.open();
-        let text = call.print(&mut value, alloc)?;
+        let text = call.print(&mut value, alloc, 2)?;
         refusals.expect_within(&rt, name, 1024)?;
         expect(&rt, name, text.contains("a text of more than thirty bytes"));
     }
@@ -242,10 +258,7 @@ impl fmt::Write for Sink {
 /// A call without `alloc` that prints.
 #[derive(Clone, Copy)]
 enum Print {
-    Write,
-    WritePretty,
-    Generator,
-    PrettyGenerator,
+    Into(Writing),
     Display,
 }
 
@@ -253,14 +266,7 @@ impl Print {
     /// Whether all was printed.
     fn print(self, value: &JsonValue, sink: &mut Sink) -> bool {
         match self {
-            Print::Write => value.write(&mut sink.bytes).is_ok(),
-            Print::WritePretty => value.write_pretty(&mut sink.bytes, 2).is_ok(),
-            Print::Generator => {
-                write_json(&mut WriterGenerator::new(&mut sink.bytes), value).is_ok()
-            }
-            Print::PrettyGenerator => {
-                write_json(&mut PrettyWriterGenerator::new(&mut sink.bytes, 2), value).is_ok()
-            }
+            Print::Into(call) => write(call, value, &mut sink.bytes, 2).is_ok(),
             Print::Display => write!(sink, "{value}").is_ok(),
         }
     }
@@ -325,11 +331,23 @@ const LONG_TEXT: &str = "abcdefghijklmnopqrstuvwxyz01234";
 const LONG_STRING: &str = "\"abcdefghijklmnopqrstuvwxyz01234\"";
 
 const PRINTED: &[Printed] = &[
-    (Print::Write, "write", DOCUMENT, DUMP, 3),
-    (Print::WritePretty, "write_pretty", DOCUMENT, PRETTY, 4),
-    (Print::Generator, "WriterGenerator", DOCUMENT, DUMP, 3),
+    (Print::Into(Writing::Write), "write", DOCUMENT, DUMP, 3),
     (
-        Print::PrettyGenerator,
+        Print::Into(Writing::WritePretty),
+        "write_pretty",
+        DOCUMENT,
+        PRETTY,
+        4,
+    ),
+    (
+        Print::Into(Writing::WriterGenerator),
+        "WriterGenerator",
+        DOCUMENT,
+        DUMP,
+        3,
+    ),
+    (
+        Print::Into(Writing::PrettyWriterGenerator),
         "PrettyWriterGenerator",
         DOCUMENT,
         PRETTY,

@@ -1,48 +1,52 @@
 //! What is printed of one value: texts on one line and on lines, and what generators consume.
 
 use crate::common::{
-    Tested, empty_containers, expect, expect_bytes, expect_dump, expect_eq, numbers,
+    Tested, Tester, empty_containers, expect, expect_bytes, expect_dump, expect_eq, numbers,
 };
+use crate::memory::prettified;
 use crate::whole::{expect_compact, expect_lines};
-use jzon::codegen::{
-    Compact, Generator, Layout, Pretty, PrettyGenerator, TextGenerator, write_json,
-};
+use jzon::codegen::{Compact, Generator, Layout, Pretty, TextGenerator};
 use jzon::number::NAN;
 use jzon::object::Object;
 use jzon::{Error, JsonValue, array, parse, stringify, stringify_pretty};
 use jzon_test_support::rows;
 use std::alloc::Global;
 use std::process::Abort;
-use std::test::Fail;
-
-fn prettified(alloc: Global, value: &JsonValue, spaces: u16) -> Result<String, Fail> {
-    let mut generator = PrettyGenerator::new(alloc, spaces);
-    write_json(&mut generator, value)?;
-    Ok(generator.consume()?)
-}
 
 #[test]
 fn prints_containers(rt: HostRuntime) -> Tested {
     let value = empty_containers(rt.alloc())?;
-    expect_compact(&rt, &value, "{\"a\":[],\"b\":{}}")?;
     let text = "{\n  \"a\": [],\n  \"b\": {}\n}";
-    expect_lines(&rt, &value, 2, text)
+    expect_both(&rt, &value, "{\"a\":[],\"b\":{}}", 2, text)
+}
+
+/// Numbers, their compact text, a number of spaces, and their text on lines.
+const NUMBERS: &[(&[u64], &str, u16, &str)] = &[
+    (&[1, 2], "[1,2]", 4, "[\n    1,\n    2\n]"),
+    (&[1, 2], "[1,2]", 0, "[\n1,\n2\n]"),
+    (&[1], "[1]", 0, "[\n1\n]"),
+];
+
+/// The value prints these texts, the second with this number of spaces.
+fn expect_both(
+    rt: &impl Tester,
+    value: &JsonValue,
+    compact: &str,
+    spaces: u16,
+    lines: &str,
+) -> Tested {
+    expect_compact(rt, value, compact)?;
+    expect_lines(rt, value, spaces, lines)
 }
 
 #[test]
 fn prints_numbers(rt: HostRuntime) -> Tested {
-    let value = numbers(rt.alloc(), &[1, 2])?;
-    expect_compact(&rt, &value, "[1,2]")?;
-    expect_lines(&rt, &value, 4, "[\n    1,\n    2\n]")?;
-    expect_lines(&rt, &value, 0, "[\n1,\n2\n]")?;
-    let one = numbers(rt.alloc(), &[1])?;
-    expect_lines(&rt, &one, 0, "[\n1\n]")?;
-    let nan = JsonValue::Number(NAN);
-    expect_compact(&rt, &nan, "null")?;
-    expect_lines(&rt, &nan, 2, "null")?;
-    let inside = JsonValue::Array(vec![in rt.alloc(); nan]?);
-    expect_compact(&rt, &inside, "[null]")?;
-    expect_lines(&rt, &inside, 2, "[\n  null\n]")
+    for (parts, compact, spaces, lines) in NUMBERS {
+        expect_both(&rt, &numbers(rt.alloc(), parts)?, compact, *spaces, lines)?;
+    }
+    expect_both(&rt, &JsonValue::Number(NAN), "null", 2, "null")?;
+    let inside = array![rt.alloc(); JsonValue::Number(NAN)];
+    expect_both(&rt, &inside, "[null]", 2, "[\n  null\n]")
 }
 
 #[test]
@@ -50,7 +54,7 @@ fn prints_the_most_spaces(rt: HostRuntime) -> Tested {
     let alloc = rt.alloc();
     let value = numbers(alloc, &[1])?;
     expect_eq(&rt, "pretty", value.pretty(alloc, 65535)?.len(), 65540);
-    let text = prettified(alloc, &value, 65535)?;
+    let text = prettified(&value, alloc, 65535)?;
     expect_eq(&rt, "PrettyGenerator", text.len(), 65540);
     let nested = JsonValue::Array(vec![in alloc; value]?);
     expect_eq(&rt, "nested", nested.pretty(alloc, 65535)?.len(), 262149);

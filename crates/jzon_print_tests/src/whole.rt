@@ -3,60 +3,63 @@
 //! generated values.
 
 use crate::common::{
-    EACH_KIND, Tested, Tester, each_unread, each_value, expect, expect_dump, parts,
+    EACH_KIND, Tested, Tester, display, each_unread, each_value, expect, expect_dump, is_text,
+    is_value, parts, read_strictly,
 };
 use crate::layouts::expect_laid_out;
-use jzon::codegen::{
-    Compact, DumpGenerator, Pretty, PrettyGenerator, PrettyWriterGenerator, WriterGenerator,
-    write_json,
-};
+use crate::memory::Writing;
+use jzon::codegen::{Compact, Pretty};
 use jzon::lent::{write_at, write_at_index, write_present};
 use jzon::object::Object;
-use jzon::{
-    IntoJson, JsonValue, Reading, Result, array, object, parse, parse_as, stringify,
-    stringify_pretty,
-};
+use jzon::{IntoJson, JsonValue, Result, array, object, parse, stringify};
 use jzon_test_support::joined;
 use std::alloc::Global;
 use std::collections::BTreeMap;
 
+/// The calls and the generators that print in the compact layout.
+const COMPACT: &[(Writing, &str)] = &[
+    (Writing::Dump, "dump"),
+    (Writing::Stringify, "stringify"),
+    (Writing::Write, "write"),
+    (Writing::DumpGenerator, "DumpGenerator"),
+    (Writing::WriterGenerator, "WriterGenerator"),
+];
+
+/// Those that print in the pretty layout.
+const LINES: &[(Writing, &str)] = &[
+    (Writing::Pretty, "pretty"),
+    (Writing::StringifyPretty, "stringify_pretty"),
+    (Writing::WritePretty, "write_pretty"),
+    (Writing::PrettyGenerator, "PrettyGenerator"),
+    (Writing::PrettyWriterGenerator, "PrettyWriterGenerator"),
+];
+
+/// Each of these prints this text of a copy of the value.
+fn expect_each(
+    rt: &impl Tester,
+    value: &JsonValue,
+    calls: &[(Writing, &str)],
+    spaces: u16,
+    text: &str,
+) -> Tested {
+    for (call, name) in calls {
+        let mut copy = value.clone(rt.alloc())?;
+        let printed = call.print(&mut copy, rt.alloc(), spaces);
+        expect(rt, name, is_text(printed, text));
+    }
+    Ok(())
+}
+
 /// What prints a value in the compact layout prints this text: the calls and the generators.
 pub fn expect_compact(rt: &impl Tester, value: &JsonValue, text: &str) -> Tested {
-    let alloc = rt.alloc();
-    expect(rt, "dump", value.dump(alloc)?.as_str() == text);
-    let printed = stringify(alloc, value.clone(alloc)?)?;
-    expect(rt, "stringify", printed.as_str() == text);
-    let mut bytes: Vec<u8> = Vec::new(alloc);
-    value.write(&mut bytes)?;
-    expect(rt, "write", bytes.as_slice() == text.as_bytes());
-    let mut generator = DumpGenerator::new(alloc);
-    write_json(&mut generator, value)?;
-    expect(rt, "DumpGenerator", generator.consume()?.as_str() == text);
-    let mut bytes: Vec<u8> = Vec::new(alloc);
-    write_json(&mut WriterGenerator::new(&mut bytes), value)?;
-    expect(rt, "WriterGenerator", bytes.as_slice() == text.as_bytes());
-    expect_laid_out(rt, alloc, value, Compact, text)
+    expect_each(rt, value, COMPACT, 0, text)?;
+    expect_laid_out(rt, rt.alloc(), value, Compact, text)
 }
 
 /// What prints a value in the pretty layout with this number of spaces prints this text.
 pub fn expect_lines(rt: &impl Tester, value: &JsonValue, spaces: u16, text: &str) -> Tested {
-    let alloc = rt.alloc();
-    let pretty = value.pretty(alloc, spaces)?;
-    expect(rt, "pretty", pretty.as_str() == text);
-    let printed = stringify_pretty(alloc, value.clone(alloc)?, spaces)?;
-    expect(rt, "stringify_pretty", printed.as_str() == text);
-    let mut bytes: Vec<u8> = Vec::new(alloc);
-    value.write_pretty(&mut bytes, spaces)?;
-    expect(rt, "write_pretty", bytes.as_slice() == text.as_bytes());
-    let mut generator = PrettyGenerator::new(alloc, spaces);
-    write_json(&mut generator, value)?;
-    let lines = generator.consume()?;
-    expect(rt, "PrettyGenerator", lines.as_str() == text);
-    let mut bytes: Vec<u8> = Vec::new(alloc);
-    write_json(&mut PrettyWriterGenerator::new(&mut bytes, spaces), value)?;
-    let is_same = bytes.as_slice() == text.as_bytes();
-    expect(rt, "PrettyWriterGenerator", is_same);
-    expect_laid_out(rt, alloc, value, Pretty(spaces), text)
+    expect_each(rt, value, LINES, spaces, text)?;
+    expect_laid_out(rt, rt.alloc(), value, Pretty(spaces), text)
 }
 
 /// What `{}` shows of a value of this compact text.
@@ -67,33 +70,45 @@ fn shown<'a>(value: &'a JsonValue, text: &'a str) -> &'a str {
     }
 }
 
-/// The value prints this text, and equals its copies.
-pub fn expect_printed(rt: &impl Tester, value: &JsonValue, text: &str) -> Tested {
-    let alloc = rt.alloc();
-    expect_compact(rt, value, text)?;
-    for spaces in [0, 2] {
-        let lines = value.pretty(alloc, spaces)?;
-        expect_lines(rt, value, spaces, lines.as_str())?;
-    }
-    let formatted = format!(in alloc; "{value}")?;
-    expect(rt, "Display", formatted.as_str() == shown(value, text));
-    let copy = value.clone(alloc)?;
-    expect(rt, "the copy", copy.dump(alloc)?.as_str() == text);
+/// What prints a value in the pretty layout prints what `pretty` does.
+fn expect_pretty(rt: &impl Tester, value: &JsonValue, spaces: u16) -> Tested {
+    let lines = value.pretty(rt.alloc(), spaces)?;
+    expect_lines(rt, value, spaces, lines.as_str())
+}
+
+/// The value equals its copies, which print this text.
+fn expect_copies(rt: &impl Tester, value: &JsonValue, text: &str) -> Tested {
+    let copy = value.clone(rt.alloc())?;
+    expect(rt, "the copy", is_text(copy.dump(rt.alloc()), text));
     expect(rt, "clone", *value == copy);
     expect(rt, "std's clone", *value == Clone::clone(&copy)?);
     Ok(())
+}
+
+/// The value prints this text, and equals its copies.
+pub fn expect_printed(rt: &impl Tester, value: &JsonValue, text: &str) -> Tested {
+    expect_compact(rt, value, text)?;
+    expect_pretty(rt, value, 0)?;
+    expect_pretty(rt, value, 2)?;
+    let is_shown = is_text(display(rt.alloc(), value), shown(value, text));
+    expect(rt, "Display", is_shown);
+    expect_copies(rt, value, text)
+}
+
+/// What the value's pretty text is read as.
+fn read_lines(alloc: Global, value: &JsonValue) -> Result<JsonValue> {
+    let lines = value.pretty(alloc, 2)?;
+    parse(alloc, lines.as_str())
 }
 
 /// It also equals what this text and its pretty text are read as.
 pub fn expect_whole(rt: &impl Tester, value: &JsonValue, text: &str) -> Tested {
     let alloc = rt.alloc();
     expect_printed(rt, value, text)?;
-    expect(rt, "parse", *value == parse(alloc, text)?);
-    let lines = value.pretty(alloc, 2)?;
-    let read = parse(alloc, lines.as_str())?;
-    expect(rt, "parse of lines", *value == read);
-    let strict = Reading::new(true, 512).unwrap();
-    expect(rt, "parse_as", *value == parse_as(alloc, text, &strict)?);
+    expect(rt, "parse", is_value(parse(alloc, text), value));
+    let is_read = is_value(read_lines(alloc, value), value);
+    expect(rt, "parse of lines", is_read);
+    expect(rt, "parse_as", is_value(read_strictly(alloc, text), value));
     Ok(())
 }
 
@@ -109,7 +124,7 @@ enum ArrayBy {
     Expression,
 }
 
-const ARRAYS: [ArrayBy; 7] = [
+const ARRAYS: &[ArrayBy] = &[
     ArrayBy::Push,
     ArrayBy::AtIndexMut,
     ArrayBy::WriteAtIndex,
@@ -119,23 +134,41 @@ const ARRAYS: [ArrayBy; 7] = [
     ArrayBy::Expression,
 ];
 
+fn roomy_array(alloc: Global) -> Result<JsonValue> {
+    Ok(JsonValue::Array(Vec::with_capacity(alloc, 5)?))
+}
+
+fn named_array(alloc: Global, item: JsonValue) -> Result<JsonValue> {
+    Ok(array![alloc; item])
+}
+
+fn array_of_expression(alloc: Global, value: &JsonValue) -> Result<JsonValue> {
+    Ok(array![alloc; value.clone(alloc)?])
+}
+
 impl ArrayBy {
-    fn array(self, alloc: Global, value: &JsonValue) -> Result<JsonValue> {
+    /// To this array.
+    fn add(self, mut array: JsonValue, alloc: Global, value: &JsonValue) -> Result<JsonValue> {
         let item = value.clone(alloc)?;
-        let mut array = JsonValue::new_array(alloc);
         match self {
             ArrayBy::Push => array.push(alloc, item)?,
-            ArrayBy::AtIndexMut => {
-                array = JsonValue::Array(Vec::with_capacity(alloc, 5)?);
-                *array.at_index_mut(alloc, 0)? = item;
-            }
-            ArrayBy::WriteAtIndex => write_at_index(&mut array, alloc, 0, item)?,
-            ArrayBy::Slice => return vec![in alloc; item]?.as_slice().into_json(alloc),
-            ArrayBy::List => return vec![in alloc; item]?.into_json(alloc),
-            ArrayBy::Name => return Ok(array![alloc; item]),
-            ArrayBy::Expression => return Ok(array![alloc; value.clone(alloc)?]),
+            ArrayBy::AtIndexMut => *array.at_index_mut(alloc, 0)? = item,
+            _ => write_at_index(&mut array, alloc, 0, item)?,
         }
         Ok(array)
+    }
+
+    fn array(self, alloc: Global, value: &JsonValue) -> Result<JsonValue> {
+        match self {
+            ArrayBy::AtIndexMut => self.add(roomy_array(alloc)?, alloc, value),
+            ArrayBy::Slice => vec![in alloc; value.clone(alloc)?]?
+                .as_slice()
+                .into_json(alloc),
+            ArrayBy::List => vec![in alloc; value.clone(alloc)?]?.into_json(alloc),
+            ArrayBy::Name => named_array(alloc, value.clone(alloc)?),
+            ArrayBy::Expression => array_of_expression(alloc, value),
+            _ => self.add(JsonValue::new_array(alloc), alloc, value),
+        }
     }
 }
 
@@ -151,7 +184,7 @@ enum ValueBy {
     Expression,
 }
 
-const VALUES: [ValueBy; 7] = [
+const VALUES: &[ValueBy] = &[
     ValueBy::Insert,
     ValueBy::InsertOver,
     ValueBy::AtMut,
@@ -160,6 +193,14 @@ const VALUES: [ValueBy; 7] = [
     ValueBy::Name,
     ValueBy::Expression,
 ];
+
+fn named_object(alloc: Global, key: &str, item: JsonValue) -> Result<JsonValue> {
+    Ok(object! {alloc; [key]: item})
+}
+
+fn object_of_expression(alloc: Global, key: &str, value: &JsonValue) -> Result<JsonValue> {
+    Ok(object! {alloc; [key]: value.clone(alloc)?})
+}
 
 impl ValueBy {
     /// The value before.
@@ -172,18 +213,23 @@ impl ValueBy {
         }
     }
 
-    fn object(self, alloc: Global, key: &str, value: &JsonValue) -> Result<JsonValue> {
-        let item = value.clone(alloc)?;
+    fn put(self, alloc: Global, key: &str, item: JsonValue) -> Result<JsonValue> {
         let mut object = self.before(alloc, key)?;
         match self {
-            ValueBy::Insert | ValueBy::InsertOver => object.insert(alloc, key, item)?,
             ValueBy::AtMut => *object.at_mut(alloc, key)? = item,
             ValueBy::WriteAt => write_at(&mut object, alloc, key, item)?,
             ValueBy::WritePresent => drop(write_present(&mut object, key, item)),
-            ValueBy::Name => return Ok(object! {alloc; [key]: item}),
-            ValueBy::Expression => return Ok(object! {alloc; [key]: value.clone(alloc)?}),
+            _ => object.insert(alloc, key, item)?,
         }
         Ok(object)
+    }
+
+    fn object(self, alloc: Global, key: &str, value: &JsonValue) -> Result<JsonValue> {
+        match self {
+            ValueBy::Name => named_object(alloc, key, value.clone(alloc)?),
+            ValueBy::Expression => object_of_expression(alloc, key, value),
+            _ => self.put(alloc, key, value.clone(alloc)?),
+        }
     }
 }
 
@@ -197,7 +243,7 @@ enum ObjectBy {
     Map,
 }
 
-const OBJECTS: [ObjectBy; 5] = [
+const OBJECTS: &[ObjectBy] = &[
     ObjectBy::Insert,
     ObjectBy::AtMut,
     ObjectBy::Pairs,
@@ -234,7 +280,7 @@ impl ObjectBy {
 }
 
 /// Keys that are empty, short and allocated.
-const KEYS: [&str; 3] = ["", "a", "0123456789abcdef0123456789abcdef01234567"];
+const KEYS: &[&str] = &["", "a", "0123456789abcdef0123456789abcdef01234567"];
 
 /// A key, its value, and the text of an object of this entry alone.
 type Entry<'a> = (&'a str, &'a JsonValue, &'a str);
@@ -261,13 +307,18 @@ fn expect_only(rt: &impl Tester, mut object: Object, (key, value, text): Entry<'
     Ok(())
 }
 
+fn expect_elements(rt: &impl Tester, value: &JsonValue, text: &str) -> Tested {
+    let list = joined(rt.alloc(), &[("[", 1), (text, 1), ("]", 1)])?;
+    for call in ARRAYS {
+        expect_element(rt, call.array(rt.alloc(), value)?, value, list.as_str())?;
+    }
+    Ok(())
+}
+
 /// The value is held by each of these, and is what they print and give back.
 pub fn expect_held(rt: &impl Tester, key: &str, value: &JsonValue, text: &str) -> Tested {
     let alloc = rt.alloc();
-    let list = joined(alloc, &[("[", 1), (text, 1), ("]", 1)])?;
-    for call in ARRAYS {
-        expect_element(rt, call.array(alloc, value)?, value, list.as_str())?;
-    }
+    expect_elements(rt, value, text)?;
     let name = stringify(alloc, key)?;
     let whole = format!(in alloc; "{{{name}:{text}}}")?;
     let entry = (key, value, whole.as_str());
@@ -283,10 +334,10 @@ pub fn expect_held(rt: &impl Tester, key: &str, value: &JsonValue, text: &str) -
 /// The object prints this text, and its copies equal it.
 pub fn expect_object(rt: &impl Tester, object: &Object, text: &str) -> Tested {
     let alloc = rt.alloc();
-    expect(rt, "dump", object.dump(alloc)?.as_str() == text);
+    expect(rt, "dump", is_text(object.dump(alloc), text));
     let lines = JsonValue::Object(object.clone(alloc)?).pretty(alloc, 0)?;
-    let pretty = object.pretty(alloc, 0)?;
-    expect(rt, "pretty", pretty.as_str() == lines.as_str());
+    let pretty = object.pretty(alloc, 0);
+    expect(rt, "pretty", is_text(pretty, lines.as_str()));
     expect(rt, "clone", object.clone(alloc)? == *object);
     expect(rt, "std's clone", Clone::clone(object)? == *object);
     Ok(())
@@ -315,11 +366,11 @@ fn prints_and_copies_each_kind(rt: HostRuntime) -> Tested {
 }
 
 /// Pieces of strings and keys: empty, plain, escaped, of two to four bytes, and controls.
-const PIECES: [&str; 14] = [
+const PIECES: &[&str] = &[
     "", "a", "B7", "é", "\n", "\"", "\\", "\u{1}", "/", "𝄞", " ", "\u{7f}", "01234567", "\u{ffff}",
 ];
 
-const EXPONENTS: [i16; 8] = [0, -1, -17, -300, 2, 17, 300, 32000];
+const EXPONENTS: &[i16] = &[0, -1, -17, -300, 2, 17, 300, 32000];
 
 /// A fixed sequence of numbers without a pattern.
 #[derive(Drop)]

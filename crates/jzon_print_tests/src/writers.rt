@@ -1,10 +1,9 @@
 //! Writers that take one byte a call, and fail at one call.
 
 use crate::common::{Tested, Tester, expect, expect_eq, expect_trouble};
+use crate::memory::{Writing, write};
 use crate::outlets::Plain;
-use jzon::codegen::{
-    Compact, Pretty, PrettyWriterGenerator, WriterGenerator, write_json, write_object,
-};
+use jzon::codegen::{Compact, Pretty, WriterGenerator, write_object};
 use jzon::{JsonValue, Result, parse};
 use jzon_test_support::{
     DOCUMENT, DUMP, FAILURES, NO_FAILING_CALL, PRETTY, Refusals, SlowWriter, Trouble, joined,
@@ -27,7 +26,7 @@ enum How {
     Object,
 }
 
-const HOWS: [How; 9] = [
+const HOWS: &[How] = &[
     How::Compact,
     How::Pretty,
     How::Layout,
@@ -99,16 +98,14 @@ impl How {
         let value = &sample.value;
         let spaces = sample.spaces;
         match self {
-            How::Compact => value.write(writer),
-            How::Pretty => value.write_pretty(writer, spaces),
+            How::Compact => write(Writing::Write, value, writer, spaces),
+            How::Pretty => write(Writing::WritePretty, value, writer, spaces),
             How::Layout => value.write_layout(writer, Compact),
-            How::PrettyLayout => value.write_layout(writer, Pretty(spaces)),
+            How::PrettyLayout => write(Writing::WriteLayout, value, writer, spaces),
             How::Outlet => value.write_outlet(&mut Plain(writer), Compact),
             How::PrettyOutlet => value.write_outlet(&mut Plain(writer), Pretty(spaces)),
-            How::Generator => write_json(&mut WriterGenerator::new(writer), value),
-            How::PrettyGenerator => {
-                write_json(&mut PrettyWriterGenerator::new(writer, spaces), value)
-            }
+            How::Generator => write(Writing::WriterGenerator, value, writer, spaces),
+            How::PrettyGenerator => write(Writing::PrettyWriterGenerator, value, writer, spaces),
             How::Object => match value.as_object() {
                 Some(object) => write_object(&mut WriterGenerator::new(writer), object),
                 None => Ok(()),
@@ -152,9 +149,9 @@ fn stops_at_each_call_that_fails(rt: HostRuntime) -> Tested {
     let sample = small(rt.alloc())?;
     for how in HOWS {
         for trouble in FAILURES {
-            expect_stops(&rt, &sample, how, trouble)?;
+            expect_stops(&rt, &sample, *how, *trouble)?;
         }
-        expect_stops(&rt, &sample, how, Trouble::TakesNothing)?;
+        expect_stops(&rt, &sample, *how, Trouble::TakesNothing)?;
     }
     Ok(())
 }
@@ -167,7 +164,7 @@ fn stops_late(rt: HostRuntime) -> Tested {
     let sample = large(rt.alloc())?;
     for how in HOWS {
         for call in [65535, 65536, 65537, how.text(&sample).len()] {
-            expect_stop(&rt, &sample, how, BROKEN, call)?;
+            expect_stop(&rt, &sample, *how, BROKEN, call)?;
         }
     }
     Ok(())
@@ -178,7 +175,7 @@ fn stops_late(rt: HostRuntime) -> Tested {
 fn stops_in_wide_lines(rt: HostRuntime) -> Tested {
     let sample = wide(rt.alloc())?;
     for how in HOWS {
-        expect_stops(&rt, &sample, how, BROKEN)?;
+        expect_stops(&rt, &sample, *how, BROKEN)?;
     }
     Ok(())
 }
@@ -193,7 +190,7 @@ fn failed_writes_counted(rt: HostRuntime) -> Tested {
     for how in HOWS {
         let mut refusals = Refusals::new(rt.alloc());
         refusals.open();
-        expect_stops(&rt, &sample, how, BROKEN)?;
+        expect_stops(&rt, &sample, *how, BROKEN)?;
         refusals.close();
         refusals.expect_within(&rt, "writes that fail", MOST_OF_FAILED)?;
         refusals.expect_even()?;

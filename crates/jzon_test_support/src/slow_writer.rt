@@ -43,7 +43,7 @@ impl Trouble {
 
 /// Every kind of error that a reader or a writer may have, and some errors of the system: of input
 /// and output, an interruption, a full device and a broken pipe.
-pub const FAILURES: [Trouble; 44] = [
+pub const FAILURES: &[Trouble] = &[
     Trouble::Fails(ErrorKind::NotFound),
     Trouble::Fails(ErrorKind::PermissionDenied),
     Trouble::Fails(ErrorKind::ConnectionRefused),

@@ -394,7 +394,7 @@ fn a_reader_fails_at_each_call(rt: HostRuntime) -> Result<(), Fail> {
     for trouble in FAILURES {
         // One call more than there are bytes, since the last one finds the end.
         for call in 1..=TEXT.len() + 1 {
-            expect_read_error(&rt, rt.alloc(), TEXT, call, trouble)?;
+            expect_read_error(&rt, rt.alloc(), TEXT, call, *trouble)?;
         }
     }
     expect_read_by_bytes(&rt, rt.alloc(), TEXT, "-12500")
@@ -440,7 +440,7 @@ fn a_writer_fails_at_each_call(rt: HostRuntime) -> Result<(), Fail> {
     let alloc = rt.alloc();
     for call in 1..=PRINTED.len() {
         for trouble in FAILURES {
-            expect_write_error(&rt, alloc, TEXT, PRINTED, call, trouble)?;
+            expect_write_error(&rt, alloc, TEXT, PRINTED, call, *trouble)?;
         }
         expect_write_error(&rt, alloc, TEXT, PRINTED, call, Trouble::TakesNothing)?;
     }
@@ -574,7 +574,7 @@ fn expect_one_flush(
 fn drive_flushes_once(rt: HostRuntime) {
     expect_one_flush(&rt, rt.alloc(), None, 0, "");
     for trouble in FAILURES {
-        expect_one_flush(&rt, rt.alloc(), Some(trouble), 3, NOT_WRITTEN);
+        expect_one_flush(&rt, rt.alloc(), Some(*trouble), 3, NOT_WRITTEN);
     }
 }
 
