@@ -79,21 +79,32 @@ impl io::Write for CountingWriter {
 /// output and to standard error.
 type Row<'a> = (Option<&'a str>, &'a [u8], u8, &'a str, &'a str);
 
-fn done(input: &'static [u8], output: &'static str) -> Row<'static> {
-    (None, input, 0, output, "")
+/// An input that is accepted, without arguments, and the output.
+macro_rules! done {
+    ($input:expr, $output:expr $(,)?) => {
+        (None, $input, 0, $output, "")
+    };
 }
 
-fn rejected(input: &'static [u8], message: &'static str) -> Row<'static> {
-    (None, input, 1, "", message)
+/// An input that is rejected, without arguments, and the message.
+macro_rules! rejected {
+    ($input:expr, $message:expr $(,)?) => {
+        (None, $input, 1, "", $message)
+    };
 }
 
-fn pretty(words: &'static str, input: &'static [u8], output: &'static str) -> Row<'static> {
-    (Some(words), input, 0, output, "")
+/// The arguments, an input that is accepted, and the output.
+macro_rules! pretty {
+    ($words:expr, $input:expr, $output:expr $(,)?) => {
+        (Some($words), $input, 0, $output, "")
+    };
 }
 
-fn misused(words: &'static str) -> Row<'static> {
-    let usage = "jzonfmt: usage: jzonfmt [--strict] [--pretty N]\n";
-    (Some(words), TEXT, 2, "", usage)
+/// Arguments that are rejected.
+macro_rules! misused {
+    ($words:expr) => {
+        (Some($words), TEXT, 2, "", "jzonfmt: usage: jzonfmt [--strict] [--pretty N]\n")
+    };
 }
 
 fn words_of(alloc: Global, words: Option<&str>) -> Result<Vec<String>, Fail> {
@@ -145,91 +156,100 @@ fn expect_rows(rt: &impl Abort, alloc: Global, rows: &[Row<'_>]) -> Result<(), F
     Ok(())
 }
 
+/// Inputs and arguments of each status.
+const LINES_AND_STATUSES: &[Row<'static>] = &[
+    done!(TEXT, "-12500\n"),
+    done!(b" \t\r\n\x0b\x0cnull \n", "null\n"),
+    done!(b"true", "true\n"),
+    done!(b"false\n", "false\n"),
+    done!(
+        b" [1,[2,{\"b\":[]}],\"three\"] ",
+        "[1,[2,{\"b\":[]}],\"three\"]\n",
+    ),
+    done!(b"18446744073709551615.5", "18446744073709551615\n"),
+    rejected!(b"", "jzonfmt: Unexpected end of JSON\n"),
+    rejected!(b"  ", "jzonfmt: Unexpected end of JSON\n"),
+    rejected!(b"tru", "jzonfmt: Unexpected end of JSON\n"),
+    rejected!(b"01", "jzonfmt: Unexpected character: 1 at (1:2)\n"),
+    rejected!(b"\n\nnulX\n", "jzonfmt: Unexpected character: X at (3:4)\n"),
+    rejected!(b"\xff", "jzonfmt: input is not UTF-8\n"),
+    rejected!(b"x\xc3", "jzonfmt: input is not UTF-8\n"),
+    rejected!(b"null\xed\xa0\x80", "jzonfmt: input is not UTF-8\n"),
+    rejected!(b"[\n}", "jzonfmt: Unexpected character: } at (2:1)\n"),
+    // Control characters are printed as they are.
+    rejected!(b"[\x1b", "jzonfmt: Unexpected character: \u{1b} at (1:2)\n"),
+    rejected!(b"\"a\n\"", "jzonfmt: Unexpected character: \n at (1:3)\n"),
+    rejected!(
+        b"\n\nnul\xf0\x9f\xa6\x84\n",
+        "jzonfmt: Unexpected character: 🦄 at (3:4)\n",
+    ),
+    rejected!(
+        b"[\"\\uDC00\\uDC00\"}",
+        "jzonfmt: Failed to parse UTF-8 bytes\n",
+    ),
+    misused!(""),
+    misused!("-"),
+    misused!("--compact"),
+    misused!("--strict=1"),
+];
+
 #[test]
 fn lines_and_statuses(rt: HostRuntime) -> Result<(), Fail> {
-    let rows = [
-        done(TEXT, "-12500\n"),
-        done(b" \t\r\n\x0b\x0cnull \n", "null\n"),
-        done(b"true", "true\n"),
-        done(b"false\n", "false\n"),
-        done(
-            b" [1,[2,{\"b\":[]}],\"three\"] ",
-            "[1,[2,{\"b\":[]}],\"three\"]\n",
-        ),
-        done(b"18446744073709551615.5", "18446744073709551615\n"),
-        rejected(b"", "jzonfmt: Unexpected end of JSON\n"),
-        rejected(b"  ", "jzonfmt: Unexpected end of JSON\n"),
-        rejected(b"tru", "jzonfmt: Unexpected end of JSON\n"),
-        rejected(b"01", "jzonfmt: Unexpected character: 1 at (1:2)\n"),
-        rejected(b"\n\nnulX\n", "jzonfmt: Unexpected character: X at (3:4)\n"),
-        rejected(b"\xff", "jzonfmt: input is not UTF-8\n"),
-        rejected(b"x\xc3", "jzonfmt: input is not UTF-8\n"),
-        rejected(b"null\xed\xa0\x80", "jzonfmt: input is not UTF-8\n"),
-        rejected(b"[\n}", "jzonfmt: Unexpected character: } at (2:1)\n"),
-        // Control characters are printed as they are.
-        rejected(b"[\x1b", "jzonfmt: Unexpected character: \u{1b} at (1:2)\n"),
-        rejected(b"\"a\n\"", "jzonfmt: Unexpected character: \n at (1:3)\n"),
-        rejected(
-            b"\n\nnul\xf0\x9f\xa6\x84\n",
-            "jzonfmt: Unexpected character: 🦄 at (3:4)\n",
-        ),
-        rejected(
-            b"[\"\\uDC00\\uDC00\"}",
-            "jzonfmt: Failed to parse UTF-8 bytes\n",
-        ),
-        misused(""),
-        misused("-"),
-        misused("--compact"),
-        misused("--strict=1"),
-    ];
-    expect_rows(&rt, rt.alloc(), &rows)
+    expect_rows(&rt, rt.alloc(), LINES_AND_STATUSES)
 }
+
+/// The forms of `--pretty`.
+const ON_LINES: &[Row<'static>] = &[
+    pretty!(
+        "--pretty,2",
+        b"{\"a\":[1,{}]}",
+        "{\n  \"a\": [\n    1,\n    {}\n  ]\n}\n",
+    ),
+    pretty!("--pretty,007", b"[1]", "[\n       1\n]\n"),
+    pretty!("--pretty,0", b"[1]", "[\n1\n]\n"),
+    pretty!("--pretty,00001", b"[[],1]", "[\n [],\n 1\n]\n"),
+    pretty!("--pretty,65535", TEXT, "-12500\n"),
+    misused!("--pretty"),
+    misused!("--pretty,65536"),
+    misused!("--pretty,000001"),
+    misused!("--pretty,"),
+    misused!("--pretty,+2"),
+    misused!("--pretty,-2"),
+    misused!("--pretty,2x"),
+    misused!("--pretty,2,2"),
+    misused!("--pretty,2,--pretty,2"),
+    misused!("2,--pretty"),
+    misused!("-pretty,2"),
+];
 
 #[test]
 fn prints_on_lines(rt: HostRuntime) -> Result<(), Fail> {
-    let rows = [
-        pretty(
-            "--pretty,2",
-            b"{\"a\":[1,{}]}",
-            "{\n  \"a\": [\n    1,\n    {}\n  ]\n}\n",
-        ),
-        pretty("--pretty,007", b"[1]", "[\n       1\n]\n"),
-        pretty("--pretty,0", b"[1]", "[\n1\n]\n"),
-        pretty("--pretty,00001", b"[[],1]", "[\n [],\n 1\n]\n"),
-        pretty("--pretty,65535", TEXT, "-12500\n"),
-        misused("--pretty"),
-        misused("--pretty,65536"),
-        misused("--pretty,000001"),
-        misused("--pretty,"),
-        misused("--pretty,+2"),
-        misused("--pretty,-2"),
-        misused("--pretty,2x"),
-        misused("--pretty,2,2"),
-        misused("--pretty,2,--pretty,2"),
-        misused("2,--pretty"),
-        misused("-pretty,2"),
-    ];
-    expect_rows(&rt, rt.alloc(), &rows)
+    expect_rows(&rt, rt.alloc(), ON_LINES)
 }
+
+/// The message for a key that is repeated.
+const REPEATED: &str = "jzonfmt: Duplicate key at (1:8)\n";
+
+const TWICE: &[u8] = b"{\"a\":1,\"a\":2}";
+
+/// The forms of `--strict`, beside those of `--pretty`.
+const STRICT: &[Row<'static>] = &[
+    (Some("--strict"), TWICE, 1, "", REPEATED),
+    done!(TWICE, "{\"a\":2}\n"),
+    pretty!("--strict", b"{\"a\": 1,\"b\":1}", "{\"a\":1,\"b\":1}\n"),
+    pretty!("--pretty,2,--strict", b"[1]", "[\n  1\n]\n"),
+    pretty!("--strict,--pretty,2", b"[1]", "[\n  1\n]\n"),
+    misused!("--strict,--strict"),
+    misused!("--strict,--pretty"),
+    misused!("--pretty,--strict"),
+    misused!("--strict,--pretty,2,--strict"),
+    misused!("--pretty,--strict,2"),
+    misused!("--strict,--strict,--strict"),
+];
 
 #[test]
 fn reads_strictly(rt: HostRuntime) -> Result<(), Fail> {
-    let twice = b"{\"a\":1,\"a\":2}";
-    let message = "jzonfmt: Duplicate key at (1:8)\n";
-    let rows: [Row<'_>; 11] = [
-        (Some("--strict"), twice, 1, "", message),
-        done(twice, "{\"a\":2}\n"),
-        pretty("--strict", b"{\"a\": 1,\"b\":1}", "{\"a\":1,\"b\":1}\n"),
-        pretty("--pretty,2,--strict", b"[1]", "[\n  1\n]\n"),
-        pretty("--strict,--pretty,2", b"[1]", "[\n  1\n]\n"),
-        misused("--strict,--strict"),
-        misused("--strict,--pretty"),
-        misused("--pretty,--strict"),
-        misused("--strict,--pretty,2,--strict"),
-        misused("--pretty,--strict,2"),
-        misused("--strict,--strict,--strict"),
-    ];
-    expect_rows(&rt, rt.alloc(), &rows)
+    expect_rows(&rt, rt.alloc(), STRICT)
 }
 
 /// Reads as `parse` does, and prints compactly.
@@ -292,20 +312,22 @@ fn every_prefix_of_a_document_ends_early(rt: HostRuntime) -> Result<(), Fail> {
     Ok(())
 }
 
+/// How a number begins, what is repeated how often, how it ends, and how it is printed.
+const LONG_NUMBERS: &[(&str, &str, usize, &str, &str)] = &[
+    ("1e", "9", 1000000, "", "1e32767"),
+    ("1e-", "9", 1000000, "", "1e-32768"),
+    ("8", "0", 32785, "e-32767", "8000000000000000000"),
+    ("8", "0", 32785, "e1", "8.000000000000000000e32785"),
+    ("0.", "0", 32767, "1", "1e-32768"),
+    ("0.", "0", 32768, "e32768", "0"),
+    ("9.", "9", 40000, "", "9.999999999999999999"),
+];
+
 #[test]
 fn prints_long_numbers(rt: HostRuntime) -> Result<(), Fail> {
     let alloc = rt.alloc();
-    let rows = [
-        ("1e", "9", 1000000, "", "1e32767"),
-        ("1e-", "9", 1000000, "", "1e-32768"),
-        ("8", "0", 32785, "e-32767", "8000000000000000000"),
-        ("8", "0", 32785, "e1", "8.000000000000000000e32785"),
-        ("0.", "0", 32767, "1", "1e-32768"),
-        ("0.", "0", 32768, "e32768", "0"),
-        ("9.", "9", 40000, "", "9.999999999999999999"),
-    ];
-    for (prefix, repeated, count, back, printed) in rows {
-        let text = joined(alloc, &[(prefix, 1), (repeated, count), (back, 1)])?;
+    for (prefix, repeated, count, back, printed) in LONG_NUMBERS {
+        let text = joined(alloc, &[(prefix, 1), (repeated, *count), (back, 1)])?;
         expect_printed(&rt, alloc, Layout::Compact, text.as_str(), printed)?;
     }
     Ok(())
@@ -326,21 +348,32 @@ fn prints_hostile_keys(rt: HostRuntime) -> Result<(), Fail> {
     expect_itself(&rt, alloc, text.as_str())
 }
 
+/// How a text begins, what is repeated how often, what comes after it, and how many brackets close.
+const TOO_DEEP: &[(&str, &str, usize, &str, usize)] = &[
+    ("8", "0", 32786, "", 0),
+    ("0.", "0", 40000, "", 0),
+    ("", "[", 100000, "", 0),
+    ("", "[", 512, "{\"a\":1}", 512),
+];
+
+/// The text exceeds a limit.
+fn expect_too_deep(rt: &impl Abort, alloc: Global, text: &str) -> Result<(), Fail> {
+    expect_fault(rt, alloc, text.as_bytes(), "Exceeded depth limit")?;
+    let message = "jzonfmt: Exceeded depth limit\n";
+    expect_driven(rt, alloc, &(None, text.as_bytes(), 1, "", message))
+}
+
 #[test]
 fn rejects_what_exceeds_the_limits(rt: HostRuntime) -> Result<(), Fail> {
     let alloc = rt.alloc();
-    let rows = [
-        ("8", "0", 32786, "", 0),
-        ("0.", "0", 40000, "", 0),
-        ("", "[", 100000, "", 0),
-        ("", "[", 512, "{\"a\":1}", 512),
-    ];
-    for (prefix, repeated, count, back, closing) in rows {
-        let parts = [(prefix, 1), (repeated, count), (back, 1), ("]", closing)];
-        let text = joined(alloc, &parts)?;
-        let message = "jzonfmt: Exceeded depth limit\n";
-        expect_fault(&rt, alloc, text.as_bytes(), "Exceeded depth limit")?;
-        expect_driven(&rt, alloc, &(None, text.as_bytes(), 1, "", message))?;
+    for (prefix, repeated, count, back, closing) in TOO_DEEP {
+        let parts = [
+            (*prefix, 1),
+            (*repeated, *count),
+            (*back, 1),
+            ("]", *closing),
+        ];
+        expect_too_deep(&rt, alloc, joined(alloc, &parts)?.as_str())?;
     }
     Ok(())
 }
@@ -453,7 +486,7 @@ fn a_writer_fails_at_each_call(rt: HostRuntime) -> Result<(), Fail> {
 /// How a text begins, what is repeated how often, and how it ends. With 8191 elements the newline is
 /// the byte 65536, and a string of 65534 bytes fills the buffer, so that only the newline has no
 /// room. Strings of more bytes than the buffer holds are at its start and after other bytes.
-const ROUND_A_BUFFER: [(&str, &str, usize, &str); 9] = [
+const ROUND_A_BUFFER: &[(&str, &str, usize, &str)] = &[
     ("[", "1234567,", 8190, "76543]"),
     ("[", "1234567,", 8191, "76543]"),
     ("[", "1234567,", 8192, "76543]"),
@@ -465,21 +498,29 @@ const ROUND_A_BUFFER: [(&str, &str, usize, &str); 9] = [
     ("{\"a\":[\"", "p", 200000, "\\u0001\",true]}"),
 ];
 
+/// The last byte of a full buffer, bytes of the next, and the newline, whichever text it follows.
+const LATE_CALLS: &[usize] = &[1, 65536, 65537, 65538, usize::MAX];
+
+/// The writer fails at each of these calls, or at the last one.
+fn expect_late_errors(rt: &impl Abort, alloc: Global, text: &[u8]) -> Result<(), Fail> {
+    for call in LATE_CALLS {
+        let call = (*call).min(text.len() + 1);
+        expect_write_error(rt, alloc, text, text, call, Trouble::TakesNothing)?;
+        let trouble = Trouble::Fails(ErrorKind::BrokenPipe);
+        expect_write_error(rt, alloc, text, text, call, trouble)?;
+    }
+    Ok(())
+}
+
 /// Also with a writer that fails at the last byte of a full buffer, at one of the next, or at the
 /// newline.
 #[test]
 fn writes_texts_round_a_full_buffer(rt: HostRuntime) -> Result<(), Fail> {
     let alloc = rt.alloc();
     for (before, piece, count, after) in ROUND_A_BUFFER {
-        let text = joined(alloc, &[(before, 1), (piece, count), (after, 1)])?;
+        let text = joined(alloc, &[(before, 1), (piece, *count), (after, 1)])?;
         expect_itself(&rt, alloc, text.as_str())?;
-        let (bytes, whole) = (text.as_bytes(), text.len() + 1);
-        for call in [1, 65536, 65537, 65538, whole] {
-            let call = call.min(whole);
-            for trouble in [Trouble::TakesNothing, Trouble::Fails(ErrorKind::BrokenPipe)] {
-                expect_write_error(&rt, alloc, bytes, bytes, call, trouble)?;
-            }
-        }
+        expect_late_errors(&rt, alloc, text.as_bytes())?;
     }
     Ok(())
 }
@@ -499,7 +540,7 @@ fn prints_more_lines_than_the_buffer_holds(rt: HostRuntime) -> Result<(), Fail> 
 
 /// A layout, how a text of it begins, what comes again and again, how it ends, and the calls of the
 /// writer: 200,004 bytes by 65,536, and 400,007.
-const SELDOM: [(Layout, &str, &str, &str, usize); 2] = [
+const SELDOM: &[(Layout, &str, &str, &str, usize)] = &[
     (Layout::Compact, "[1", ",1", "]", 4),
     (Layout::Pretty(1), "[\n 1", ",\n 1", "\n]", 7),
 ];
@@ -510,8 +551,8 @@ fn writes_seldom(rt: HostRuntime) -> Result<(), Fail> {
     let alloc = rt.alloc();
     for (layout, open, next, close, calls) in SELDOM {
         let text = joined(alloc, &[(open, 1), (next, 100000), (close, 1)])?;
-        let found = expect_printed(&rt, alloc, layout, text.as_str(), text.as_str())?;
-        expect(&rt, "the calls", found == calls);
+        let found = expect_printed(&rt, alloc, *layout, text.as_str(), text.as_str())?;
+        expect(&rt, "the calls", found == *calls);
     }
     Ok(())
 }
