@@ -50,6 +50,12 @@ trait Call: Copy {
 /// its allocations.
 type Row<C> = (C, &'static str, &'static str, &'static str, usize);
 
+/// What a call made becomes the value.
+fn set(value: &mut JsonValue, made: Result<JsonValue>) -> Result<()> {
+    *value = made?;
+    Ok(())
+}
+
 /// It holds of this row. To prove an assertion takes seconds, and a call of this hardly any time.
 fn expect(rt: &impl Abort, row: &str, holds: bool) {
     assert!(rt; holds, "{row}");

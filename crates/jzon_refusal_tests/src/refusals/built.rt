@@ -72,33 +72,49 @@ fn wrong_type(alloc: Global) -> Result<JsonValue> {
     }
 }
 
+fn value_of_expression(alloc: Global) -> Result<JsonValue> {
+    Ok(jzon::value!(alloc; LONG_TEXT))
+}
+
+fn stringified(alloc: Global) -> Result<JsonValue> {
+    let list = [Some(LONG_KEY), None];
+    Ok(JsonValue::String(jzon::stringify(alloc, list.as_slice())?))
+}
+
+fn prettified(alloc: Global) -> Result<JsonValue> {
+    let text = jzon::stringify_pretty(alloc, [LONG_KEY].as_slice(), 2)?;
+    Ok(JsonValue::String(text))
+}
+
+fn short_text(alloc: Global) -> Result<JsonValue> {
+    Ok(JsonValue::String(Short::from_slice("inline").into_string(alloc)?))
+}
+
+impl Built {
+    fn build(self, alloc: Global) -> Result<JsonValue> {
+        match self {
+            Built::From => jzon::from(alloc, LONG_TEXT),
+            Built::Texts => texts(alloc),
+            Built::Slice => [LONG_TEXT, ""].as_slice().into_json(alloc),
+            Built::Map => map(alloc),
+            Built::BorrowedMap => borrowed_map(alloc),
+            Built::HashMap => hash_map(alloc),
+            Built::OwnedHashMap => owned_hash_map(alloc),
+            Built::Value => value_of_macro(alloc),
+            Built::Expression => value_of_expression(alloc),
+            Built::Array => array(alloc),
+            Built::Object => object(alloc),
+            Built::Stringify => stringified(alloc),
+            Built::StringifyPretty => prettified(alloc),
+            Built::WrongType => wrong_type(alloc),
+            Built::Short => short_text(alloc),
+        }
+    }
+}
+
 impl Call for Built {
     fn call(self, value: &mut JsonValue, alloc: Global) -> Result<()> {
-        *value = match self {
-            Built::From => jzon::from(alloc, LONG_TEXT)?,
-            Built::Texts => texts(alloc)?,
-            Built::Slice => [LONG_TEXT, ""].as_slice().into_json(alloc)?,
-            Built::Map => map(alloc)?,
-            Built::BorrowedMap => borrowed_map(alloc)?,
-            Built::HashMap => hash_map(alloc)?,
-            Built::OwnedHashMap => owned_hash_map(alloc)?,
-            Built::Value => value_of_macro(alloc)?,
-            Built::Expression => jzon::value!(alloc; LONG_TEXT),
-            Built::Array => array(alloc)?,
-            Built::Object => object(alloc)?,
-            Built::Stringify => JsonValue::String(jzon::stringify(
-                alloc,
-                [Some(LONG_KEY), None].as_slice(),
-            )?),
-            Built::StringifyPretty => JsonValue::String(jzon::stringify_pretty(
-                alloc,
-                [LONG_KEY].as_slice(),
-                2,
-            )?),
-            Built::WrongType => wrong_type(alloc)?,
-            Built::Short => JsonValue::String(Short::from_slice("inline").into_string(alloc)?),
-        };
-        Ok(())
+        set(value, self.build(alloc))
     }
 }
 

@@ -36,38 +36,57 @@ fn take_string(value: &mut JsonValue, alloc: Global) -> Result<()> {
     Ok(())
 }
 
+fn parse_and_push(alloc: Global, text: &str) -> Result<JsonValue> {
+    let mut read = parse(alloc, text)?;
+    read.push(alloc, true)?;
+    Ok(read)
+}
+
+fn parse_and_insert(alloc: Global, text: &str) -> Result<JsonValue> {
+    let mut read = parse(alloc, text)?;
+    read.insert(alloc, "d", true)?;
+    Ok(read)
+}
+
+fn copy(value: &mut JsonValue, alloc: Global) -> Result<()> {
+    *value = value.clone(alloc)?;
+    Ok(())
+}
+
+fn std_copy(value: &mut JsonValue) -> Result<()> {
+    *value = Clone::clone(value)?;
+    Ok(())
+}
+
+/// The reference isn't used.
+fn borrow_at(value: &mut JsonValue, alloc: Global) -> Result<()> {
+    value.at_mut(alloc, LONG_KEY)?;
+    Ok(())
+}
+
+fn borrow_at_index(value: &mut JsonValue, alloc: Global, index: usize) -> Result<()> {
+    value.at_index_mut(alloc, index)?;
+    Ok(())
+}
+
 impl Call for Changed {
     fn call(self, value: &mut JsonValue, alloc: Global) -> Result<()> {
         match self {
-            Changed::Parse(text) => *value = parse(alloc, text)?,
-            Changed::ParseStrictly(text) => *value = parse_strictly(alloc, text)?,
-            Changed::ParseAndPush(text) => {
-                let mut read = parse(alloc, text)?;
-                read.push(alloc, true)?;
-                *value = read;
-            }
-            Changed::ParseAndInsert(text) => {
-                let mut read = parse(alloc, text)?;
-                read.insert(alloc, "d", true)?;
-                *value = read;
-            }
-            Changed::Clone => *value = value.clone(alloc)?,
-            Changed::StdClone => *value = Clone::clone(value)?,
-            Changed::Push => value.push(alloc, true)?,
-            Changed::PushLongText => value.push(alloc, LONG_TEXT)?,
-            Changed::PushOnNull => passed_over(value.push(alloc, LONG_TEXT))?,
-            Changed::Insert => value.insert(alloc, LONG_KEY, true)?,
-            Changed::InsertOnArray => passed_over(value.insert(alloc, "a", LONG_TEXT))?,
-            // The reference isn't used.
-            Changed::AtMut => {
-                value.at_mut(alloc, LONG_KEY)?;
-            }
-            Changed::AtIndexMut(index) => {
-                value.at_index_mut(alloc, index)?;
-            }
-            Changed::TakeString => take_string(value, alloc)?,
+            Changed::Parse(text) => set(value, parse(alloc, text)),
+            Changed::ParseStrictly(text) => set(value, parse_strictly(alloc, text)),
+            Changed::ParseAndPush(text) => set(value, parse_and_push(alloc, text)),
+            Changed::ParseAndInsert(text) => set(value, parse_and_insert(alloc, text)),
+            Changed::Clone => copy(value, alloc),
+            Changed::StdClone => std_copy(value),
+            Changed::Push => value.push(alloc, true),
+            Changed::PushLongText => value.push(alloc, LONG_TEXT),
+            Changed::PushOnNull => passed_over(value.push(alloc, LONG_TEXT)),
+            Changed::Insert => value.insert(alloc, LONG_KEY, true),
+            Changed::InsertOnArray => passed_over(value.insert(alloc, "a", LONG_TEXT)),
+            Changed::AtMut => borrow_at(value, alloc),
+            Changed::AtIndexMut(index) => borrow_at_index(value, alloc, index),
+            Changed::TakeString => take_string(value, alloc),
         }
-        Ok(())
     }
 }
 

@@ -9,7 +9,7 @@ use jzon::object::Object;
 use std::collections::{BTreeMap, HashMap};
 
 /// Few, more than are compared one by one, and more than 16 bits count.
-const COUNTS: [u32; 3] = [3, 300, 70_000];
+const COUNTS: &[u32] = &[3, 300, 70_000];
 
 /// The most bytes that a call requests for each element or entry.
 const MOST_OF_ENTRY: usize = 4096;
@@ -43,6 +43,17 @@ fn owned_array(alloc: Global, count: u32) -> Result<JsonValue> {
 fn owned_object(alloc: Global, count: u32) -> Result<Object> {
     let pairs = texts(alloc, count)?.into_iter().zip(texts(alloc, count)?);
     Object::from_pairs(alloc, pairs)
+}
+
+fn sliced(alloc: Global, count: u32) -> Result<()> {
+    drop(texts(alloc, count)?.as_slice().into_json(alloc)?);
+    Ok(())
+}
+
+/// What a call makes is dropped.
+fn dropped<T: Drop>(made: Result<T>) -> Result<()> {
+    drop(made?);
+    Ok(())
 }
 
 /// A call that uses up what it is passed, or replaces or removes parts of it.
@@ -140,27 +151,45 @@ fn hash_map(alloc: Global, count: u32) -> Result<()> {
     Ok(())
 }
 
+fn std_clone(object: &Object) -> Result<()> {
+    drop(Clone::clone(object)?);
+    Ok(())
+}
+
+/// Both texts are there at one time.
+fn printed_object(object: &Object, alloc: Global) -> Result<()> {
+    drop((object.dump(alloc)?, object.pretty(alloc, 2)?));
+    Ok(())
+}
+
 impl Freed {
     /// On an object of its own.
     fn call_on(self, mut object: Object, alloc: Global) -> Result<()> {
+        match self {
+            Freed::DropHalfRead => return half_read(object, alloc),
+            Freed::OverrideLast => object.override_last(long_item(alloc)?),
+            Freed::Clone => return dropped(object.clone(alloc)),
+            Freed::StdClone => return std_clone(&object),
+            Freed::Print => return printed_object(&object, alloc),
+            _ => self.use_up(object),
+        }
+        Ok(())
+    }
+
+    /// By a call that allocates nothing.
+    fn use_up(self, mut object: Object) {
         match self {
             Freed::Clear => object.clear(),
             Freed::Retain => object.retain(|key, _value| key.starts_with("00000")),
             Freed::Remove => drop(object.remove("00001, a text of more than thirty bytes")),
             Freed::DropUnread => drop(object.into_iter()),
-            Freed::DropHalfRead => half_read(object, alloc)?,
             Freed::Read => {
                 for (key, value) in object.into_iter().rev() {
                     drop((key, value));
                 }
             }
-            Freed::OverrideLast => object.override_last(long_item(alloc)?),
-            Freed::Clone => drop(object.clone(alloc)?),
-            Freed::StdClone => drop(Clone::clone(&object)?),
-            Freed::Print => drop((object.dump(alloc)?, object.pretty(alloc, 2)?)),
             _ => {}
         }
-        Ok(())
     }
 }
 
@@ -248,16 +277,16 @@ impl FreedOfArray {
             FreedOfArray::Clear => array.clear(),
             FreedOfArray::Pop => pop_each(array, count),
             FreedOfArray::ArrayRemove => drop(array.array_remove(1)),
-            FreedOfArray::MembersMut => assign_each(array, alloc)?,
-            FreedOfArray::WriteAtIndex => write_each(array, alloc, count)?,
+            FreedOfArray::MembersMut => return assign_each(array, alloc),
+            FreedOfArray::WriteAtIndex => return write_each(array, alloc, count),
             FreedOfArray::AtMut => *array.at_mut(alloc, LONG_KEY)? = long_item(alloc)?,
             FreedOfArray::AtIndexMut => *array.at_index_mut(alloc, 1)? = long_item(alloc)?,
             FreedOfArray::Take => drop(array.take()),
-            FreedOfArray::TakeString => take_strings(array, alloc)?,
-            FreedOfArray::Clone => drop(array.clone(alloc)?),
+            FreedOfArray::TakeString => return take_strings(array, alloc),
+            FreedOfArray::Clone => return dropped(array.clone(alloc)),
             FreedOfArray::StdClone => drop(Clone::clone(array)?),
-            FreedOfArray::Print => printed(array, alloc)?,
-            FreedOfArray::DropGenerator => drop_generator(array, alloc)?,
+            FreedOfArray::Print => return printed(array, alloc),
+            FreedOfArray::DropGenerator => return drop_generator(array, alloc),
             _ => {}
         }
         Ok(())
@@ -273,26 +302,24 @@ impl Counted for Freed {
     fn call(self, alloc: Global, count: u32) -> Result<()> {
         match self {
             Freed::Insert | Freed::AtMut | Freed::WriteAt | Freed::WritePresent => {
-                replace_each(self, alloc, count)?
+                replace_each(self, alloc, count)
             }
-            Freed::InsertNew | Freed::AtMutNew => insert_each(self, alloc, count)?,
-            Freed::FromPairs => paired(alloc, count)?,
-            Freed::Map => map(alloc, count)?,
-            Freed::HashMap => hash_map(alloc, count)?,
-            _ => self.call_on(owned_object(alloc, count)?, alloc)?,
+            Freed::InsertNew | Freed::AtMutNew => insert_each(self, alloc, count),
+            Freed::FromPairs => paired(alloc, count),
+            Freed::Map => map(alloc, count),
+            Freed::HashMap => hash_map(alloc, count),
+            _ => self.call_on(owned_object(alloc, count)?, alloc),
         }
-        Ok(())
     }
 }
 
 impl Counted for FreedOfArray {
     fn call(self, alloc: Global, count: u32) -> Result<()> {
         match self {
-            FreedOfArray::Slice => drop(texts(alloc, count)?.as_slice().into_json(alloc)?),
-            FreedOfArray::Push | FreedOfArray::Append => append_each(self, alloc, count)?,
-            _ => self.call_on(&mut owned_array(alloc, count)?, alloc, count)?,
+            FreedOfArray::Slice => sliced(alloc, count),
+            FreedOfArray::Push | FreedOfArray::Append => append_each(self, alloc, count),
+            _ => self.call_on(&mut owned_array(alloc, count)?, alloc, count),
         }
-        Ok(())
     }
 }
 
@@ -360,10 +387,10 @@ const FREED_OF_ARRAY: &[(FreedOfArray, &str)] = rows! {
 fn freed_counted(rt: HostRuntime) -> Tested {
     for count in COUNTS {
         for row in FREED {
-            expect_freed(&rt, rt.alloc(), *row, count)?;
+            expect_freed(&rt, rt.alloc(), *row, *count)?;
         }
         for row in FREED_OF_ARRAY {
-            expect_freed(&rt, rt.alloc(), *row, count)?;
+            expect_freed(&rt, rt.alloc(), *row, *count)?;
         }
     }
     Ok(())

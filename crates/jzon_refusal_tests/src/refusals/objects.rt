@@ -4,7 +4,6 @@ use super::*;
 use jzon::lent::{write_at, write_at_index};
 use jzon::object::{Key, Object};
 use jzon_test_support::keys_by_hash;
-use std::alloc::AllocError;
 
 #[derive(Clone, Copy)]
 enum OfObject {
@@ -38,7 +37,11 @@ fn pairs(alloc: Global) -> Result<JsonValue> {
     Ok(JsonValue::Object(Object::from_pairs(alloc, pairs.into_iter())?))
 }
 
-fn collected(alloc: Global) -> std::result::Result<JsonValue, AllocError> {
+fn roomy(alloc: Global) -> Result<JsonValue> {
+    Ok(JsonValue::Object(Object::with_capacity(alloc, 3)?))
+}
+
+fn collected(alloc: Global) -> Result<JsonValue> {
     let pairs = [("a", LONG_TEXT), ("b", ""), ("a", "")];
     let object: Object = pairs.into_iter().collect(alloc)?;
     Ok(JsonValue::Object(object))
@@ -58,20 +61,20 @@ fn key_text(alloc: Global, text: &str) -> Result<JsonValue> {
 impl Call for OfObject {
     fn call(self, value: &mut JsonValue, alloc: Global) -> Result<()> {
         match self {
-            OfObject::WithCapacity => *value = JsonValue::Object(Object::with_capacity(alloc, 3)?),
-            OfObject::FromPairs => *value = pairs(alloc)?,
-            OfObject::Collected => *value = collected(alloc)?,
-            OfObject::KeyClone => *value = cloned_key(alloc)?,
-            OfObject::WriteAt => write_at(value, alloc, LONG_KEY, JsonValue::Null)?,
-            OfObject::WriteAtIndex => write_at_index(value, alloc, 1, JsonValue::Null)?,
-            OfObject::Key(text) => *value = key_text(alloc, text)?,
+            OfObject::WithCapacity => set(value, roomy(alloc)),
+            OfObject::FromPairs => set(value, pairs(alloc)),
+            OfObject::Collected => set(value, collected(alloc)),
+            OfObject::KeyClone => set(value, cloned_key(alloc)),
+            OfObject::WriteAt => write_at(value, alloc, LONG_KEY, JsonValue::Null),
+            OfObject::WriteAtIndex => write_at_index(value, alloc, 1, JsonValue::Null),
+            OfObject::Key(text) => set(value, key_text(alloc, text)),
             OfObject::Insert | OfObject::AtMut | OfObject::Clone | OfObject::StdClone => {
-                if let JsonValue::Object(object) = value {
-                    change(object, self, alloc)?;
+                match value {
+                    JsonValue::Object(object) => change(object, self, alloc),
+                    _ => Ok(()),
                 }
             }
         }
-        Ok(())
     }
 }
 

@@ -40,8 +40,7 @@ fn item(alloc: Global) -> Result<JsonValue> {
     Ok(JsonValue::String(text(alloc)?))
 }
 
-fn object_insert(value: &mut JsonValue, alloc: Global) -> Result<()> {
-    let item = item(alloc)?;
+fn object_insert(value: &mut JsonValue, alloc: Global, item: JsonValue) -> Result<()> {
     match value {
         JsonValue::Object(object) => object.insert(alloc, LONG_KEY, item),
         _ => Ok(()),
@@ -127,50 +126,74 @@ fn rejected(alloc: Global, text: &str) -> Result<()> {
     }
 }
 
+fn borrow_at(value: &mut JsonValue, alloc: Global) -> Result<()> {
+    value.at_mut(alloc, "a")?;
+    Ok(())
+}
+
+fn borrow_at_index(value: &mut JsonValue, alloc: Global) -> Result<()> {
+    value.at_index_mut(alloc, 1)?;
+    Ok(())
+}
+
+fn cleared_array(value: &mut JsonValue, alloc: Global) -> Result<()> {
+    value.push(alloc, text(alloc)?)?;
+    value.clear();
+    Ok(())
+}
+
+fn cleared_string(value: &mut JsonValue, alloc: Global) -> Result<()> {
+    *value = item(alloc)?;
+    value.clear();
+    Ok(())
+}
+
+impl Owned {
+    /// Puts this text.
+    fn put(self, value: &mut JsonValue, alloc: Global, text: String) -> Result<()> {
+        match self {
+            Owned::Push => value.push(alloc, text),
+            Owned::PushOnNull => passed_over(value.push(alloc, text)),
+            Owned::Insert(key) => value.insert(alloc, key, text),
+            _ => passed_over(value.insert(alloc, "a", text)),
+        }
+    }
+
+    /// Puts this item.
+    fn put_item(self, value: &mut JsonValue, alloc: Global, item: JsonValue) -> Result<()> {
+        match self {
+            Owned::WriteAt => write_at(value, alloc, LONG_KEY, item),
+            Owned::WriteAtIndex => write_at_index(value, alloc, 1, item),
+            Owned::WritePresent => {
+                write_present(value, "a", item);
+                Ok(())
+            }
+            _ => object_insert(value, alloc, item),
+        }
+    }
+}
+
 impl Call for Owned {
     fn call(self, value: &mut JsonValue, alloc: Global) -> Result<()> {
         match self {
-            Owned::Push => value.push(alloc, text(alloc)?)?,
-            Owned::PushOnNull => {
-                let text = text(alloc)?;
-                passed_over(value.push(alloc, text))?;
+            Owned::Remove => removed(value, alloc),
+            Owned::OverrideLast => override_last(value, alloc),
+            Owned::Clear => cleared(value, alloc),
+            Owned::Consume => consumed(alloc),
+            Owned::AtMut => borrow_at(value, alloc),
+            Owned::AtIndexMut => borrow_at_index(value, alloc),
+            Owned::ClearArray => cleared_array(value, alloc),
+            Owned::ClearString => cleared_string(value, alloc),
+            Owned::Retain => retained(value, alloc),
+            Owned::FromPairs => set(value, from_pairs(alloc)),
+            Owned::Repeated => set(value, repeated(alloc)),
+            Owned::Emptied => set(value, emptied(alloc)),
+            Owned::Rejected(text) => rejected(alloc, text),
+            Owned::Push | Owned::PushOnNull | Owned::Insert(_) | Owned::InsertOnArray => {
+                self.put(value, alloc, text(alloc)?)
             }
-            Owned::Insert(key) => value.insert(alloc, key, text(alloc)?)?,
-            Owned::InsertOnArray => {
-                let text = text(alloc)?;
-                passed_over(value.insert(alloc, "a", text))?;
-            }
-            Owned::ObjectInsert => object_insert(value, alloc)?,
-            Owned::FromPairs => *value = from_pairs(alloc)?,
-            Owned::WriteAt => write_at(value, alloc, LONG_KEY, item(alloc)?)?,
-            Owned::WriteAtIndex => write_at_index(value, alloc, 1, item(alloc)?)?,
-            Owned::WritePresent => {
-                write_present(value, "a", item(alloc)?);
-            }
-            Owned::Remove => removed(value, alloc)?,
-            Owned::OverrideLast => override_last(value, alloc)?,
-            Owned::Clear => cleared(value, alloc)?,
-            Owned::Consume => consumed(alloc)?,
-            Owned::AtMut => {
-                value.at_mut(alloc, "a")?;
-            }
-            Owned::AtIndexMut => {
-                value.at_index_mut(alloc, 1)?;
-            }
-            Owned::ClearArray => {
-                value.push(alloc, text(alloc)?)?;
-                value.clear();
-            }
-            Owned::ClearString => {
-                *value = item(alloc)?;
-                value.clear();
-            }
-            Owned::Retain => retained(value, alloc)?,
-            Owned::Repeated => *value = repeated(alloc)?,
-            Owned::Emptied => *value = emptied(alloc)?,
-            Owned::Rejected(text) => rejected(alloc, text)?,
+            _ => self.put_item(value, alloc, item(alloc)?),
         }
-        Ok(())
     }
 }
 

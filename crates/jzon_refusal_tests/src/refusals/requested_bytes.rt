@@ -208,7 +208,7 @@ fn make_inline(alloc: Global) -> Result<()> {
 }
 
 /// Texts without strings and containers.
-const PRIMITIVES: [&str; 6] = [
+const PRIMITIVES: &[&str] = &[
     "null",
     " true ",
     "-12.50e3",
@@ -218,7 +218,7 @@ const PRIMITIVES: [&str; 6] = [
 ];
 
 /// Texts without strings and containers that are rejected.
-const NO_PRIMITIVES: [&str; 6] = [
+const NO_PRIMITIVES: &[&str] = &[
     "",
     "nul",
     "01",
@@ -290,17 +290,17 @@ impl Frugal {
 impl Call for Frugal {
     fn call(self, value: &mut JsonValue, alloc: Global) -> Result<()> {
         match self {
-            Frugal::Insert(key) => value.insert(alloc, key, "short")?,
+            Frugal::Insert(key) => return value.insert(alloc, key, "short"),
             Frugal::AtMut(key) => *value.at_mut(alloc, key)? = JsonValue::Null,
-            Frugal::WriteAt(key) => write_at(value, alloc, key, JsonValue::Null)?,
+            Frugal::WriteAt(key) => return write_at(value, alloc, key, JsonValue::Null),
             Frugal::WritePresent => return of_truth(write_present(value, "1", JsonValue::Null)),
             Frugal::GetMut => return of_truth(value.get_mut("1").is_some()),
             Frugal::Remove => drop(value.remove("1")),
             Frugal::ArrayRemove => drop(value.array_remove(1)),
             Frugal::Pop => drop(value.pop()),
             Frugal::AtIndexMut => *value.at_index_mut(alloc, 69999)? = JsonValue::Null,
-            Frugal::WriteAtIndex => write_at_index(value, alloc, 69999, JsonValue::Null)?,
-            _ => self.use_up(value, alloc)?,
+            Frugal::WriteAtIndex => return write_at_index(value, alloc, 69999, JsonValue::Null),
+            _ => return self.use_up(value, alloc),
         }
         Ok(())
     }
@@ -380,18 +380,14 @@ fn no_memory_counted(rt: HostRuntime) -> Tested {
 #[test]
 fn no_memory_for_nothing_counted(rt: HostRuntime) -> Tested {
     let alloc = rt.alloc();
+    expect_frugal(&rt, alloc, "nothing", &JsonValue::Null)?;
+    expect_frugal(&rt, alloc, "nothing", &JsonValue::new_array(alloc))?;
+    expect_frugal(&rt, alloc, "nothing", &JsonValue::new_object(alloc))?;
+    let empty = JsonValue::String(String::new(alloc));
+    expect_frugal(&rt, alloc, "nothing", &empty)?;
     let mut emptied = parse(alloc, "{\"a\":1}")?;
     drop(emptied.remove("a"));
-    for value in [
-        JsonValue::Null,
-        JsonValue::new_array(alloc),
-        JsonValue::new_object(alloc),
-        JsonValue::String(String::new(alloc)),
-        emptied,
-    ] {
-        expect_frugal(&rt, alloc, "nothing", &value)?;
-    }
-    Ok(())
+    expect_frugal(&rt, alloc, "nothing", &emptied)
 }
 
 /// What makes an array of `COUNT` elements.
@@ -414,7 +410,7 @@ impl Made {
     }
 }
 
-const MADE: [(Made, &str); 4] = [
+const MADE: &[(Made, &str)] = &[
     (Made::OfList, "into_json of a long list"),
     (Made::OfSlice, "into_json of a long slice"),
     (Made::Clone, "clone of a long array"),
