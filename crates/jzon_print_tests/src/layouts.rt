@@ -289,23 +289,33 @@ fn sorts_a_large_object(rt: HostRuntime) -> Tested {
 /// An order has more positions than 16 bits can count. An outlet is asked for each of the keys.
 #[test]
 fn writes_many_entries_in_an_order(rt: HostRuntime) -> Tested {
-    let alloc = rt.alloc();
-    let mut keys = keys_by_hash(alloc, 70_000)?;
-    let object = object_of(alloc, keys.as_slice())?;
+    let mut keys = keys_by_hash(rt.alloc(), 70_000)?;
+    let object = object_of(rt.alloc(), keys.as_slice())?;
     keys.reverse();
-    let text = object_text(alloc, keys.as_slice())?;
+    let text = object_text(rt.alloc(), keys.as_slice())?;
+    expect_reversed(&rt, &object, text.as_str())?;
+    expect_outlet_asked(&rt, &JsonValue::Object(object), text.as_str())
+}
+
+/// `write_object` in the reversed order prints this text.
+fn expect_reversed(rt: &impl Tester, object: &Object, text: &str) -> Tested {
     let asked = Cell::new(0);
-    let layout = in_order(alloc, Order::Reversed, &asked);
-    let mut generator = TextGenerator::in_memory(alloc, layout);
-    write_object(&mut generator, &object)?;
-    let written = generator.consume()?;
-    expect(&rt, "write_object", written.as_str() == text.as_str());
-    expect_eq(&rt, "the calls of order", asked.get(), 1);
-    let value = JsonValue::Object(object);
-    expect_laid_out(&rt, alloc, &value, layout, text.as_str())?;
-    let mut buffer = Buffer::new(Vec::new(alloc));
+    let layout = in_order(rt.alloc(), Order::Reversed, &asked);
+    let mut generator = TextGenerator::in_memory(rt.alloc(), layout);
+    write_object(&mut generator, object)?;
+    expect(rt, "write_object", is_text(generator.consume(), text));
+    expect_eq(rt, "the calls of order", asked.get(), 1);
+    Ok(())
+}
+
+/// Each call prints this text in the reversed order, and an outlet is asked for each key.
+fn expect_outlet_asked(rt: &impl Tester, value: &JsonValue, text: &str) -> Tested {
+    let asked = Cell::new(0);
+    let layout = in_order(rt.alloc(), Order::Reversed, &asked);
+    expect_laid_out(rt, rt.alloc(), value, layout, text)?;
+    let mut buffer = Buffer::new(Vec::new(rt.alloc()));
     value.write_outlet(&mut buffer, layout)?;
-    expect_eq(&rt, "the keys", buffer.asked, 70_000);
+    expect_eq(rt, "the keys", buffer.asked, 70_000);
     Ok(())
 }
 

@@ -97,7 +97,16 @@ fn written(call: Writing, value: &JsonValue, alloc: Global, spaces: u16) -> Resu
 
 impl Writing {
     /// What is printed of the value, which `stringify` takes.
-    pub fn print(self, value: &mut JsonValue, alloc: Global, spaces: u16) -> Result<String> {
+    fn print(self, value: &mut JsonValue, alloc: Global, spaces: u16) -> Result<String> {
+        match self {
+            Writing::Stringify => stringify(alloc, value.take()),
+            Writing::StringifyPretty => stringify_pretty(alloc, value.take(), spaces),
+            _ => self.text(value, alloc, spaces),
+        }
+    }
+
+    /// What is printed of the value. `stringify` takes a copy.
+    pub fn text(self, value: &JsonValue, alloc: Global, spaces: u16) -> Result<String> {
         match self {
             Writing::Dump => value.dump(alloc),
             Writing::Pretty => value.pretty(alloc, spaces),
@@ -106,8 +115,8 @@ impl Writing {
             Writing::PrettyLayOut => value.lay_out(alloc, Pretty(spaces)),
             Writing::DumpGenerator => dumped(value, alloc),
             Writing::PrettyGenerator => prettified(value, alloc, spaces),
-            Writing::Stringify => stringify(alloc, value.take()),
-            Writing::StringifyPretty => stringify_pretty(alloc, value.take(), spaces),
+            Writing::Stringify => stringify(alloc, value.clone(alloc)?),
+            Writing::StringifyPretty => stringify_pretty(alloc, value.clone(alloc)?, spaces),
             _ => written(self, value, alloc, spaces),
         }
     }

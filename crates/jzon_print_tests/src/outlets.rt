@@ -1,7 +1,7 @@
 //! Outlets: a user's own buffer that takes what it has room for at once, and one that takes nothing at
 //! once; and the functions by which a buffer takes it.
 
-use crate::common::{Tested, expect, expect_bytes, expect_eq};
+use crate::common::{Tested, Tester, expect, expect_bytes, expect_eq};
 use crate::layouts::expect_laid_out;
 use jzon::codegen::{Compact, Outlet, Pretty, push_digits, push_line, push_short};
 use jzon::number::{NAN, Number};
@@ -116,8 +116,12 @@ fn writes_to_a_buffer_with_room(rt: HostRuntime) -> Tested {
     value.write_outlet(&mut buffer, Pretty(1))?;
     expect_bytes(&rt, &buffer.bytes, ON_LINES);
     expect_eq(&rt, "the lines", buffer.lines, 7);
-    expect_laid_out(&rt, rt.alloc(), &value, Compact, ON_ONE_LINE)?;
-    expect_laid_out(&rt, rt.alloc(), &value, Pretty(1), ON_LINES)
+    expect_mixed(&rt, &value)
+}
+
+fn expect_mixed(rt: &impl Tester, value: &JsonValue) -> Tested {
+    expect_laid_out(rt, rt.alloc(), value, Compact, ON_ONE_LINE)?;
+    expect_laid_out(rt, rt.alloc(), value, Pretty(1), ON_LINES)
 }
 
 /// A key and a string of more bytes than are added at once, one with an escape, NaN, and 0.

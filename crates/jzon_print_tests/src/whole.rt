@@ -34,31 +34,29 @@ const LINES: &[(Writing, &str)] = &[
     (Writing::PrettyWriterGenerator, "PrettyWriterGenerator"),
 ];
 
-/// Each of these prints this text of a copy of the value.
+/// Each of these prints this text of the value.
 fn expect_each(
     rt: &impl Tester,
     value: &JsonValue,
     calls: &[(Writing, &str)],
     spaces: u16,
     text: &str,
-) -> Tested {
+) {
     for (call, name) in calls {
-        let mut copy = value.clone(rt.alloc())?;
-        let printed = call.print(&mut copy, rt.alloc(), spaces);
+        let printed = call.text(value, rt.alloc(), spaces);
         expect(rt, name, is_text(printed, text));
     }
-    Ok(())
 }
 
 /// What prints a value in the compact layout prints this text: the calls and the generators.
 pub fn expect_compact(rt: &impl Tester, value: &JsonValue, text: &str) -> Tested {
-    expect_each(rt, value, COMPACT, 0, text)?;
+    expect_each(rt, value, COMPACT, 0, text);
     expect_laid_out(rt, rt.alloc(), value, Compact, text)
 }
 
 /// What prints a value in the pretty layout with this number of spaces prints this text.
 pub fn expect_lines(rt: &impl Tester, value: &JsonValue, spaces: u16, text: &str) -> Tested {
-    expect_each(rt, value, LINES, spaces, text)?;
+    expect_each(rt, value, LINES, spaces, text);
     expect_laid_out(rt, rt.alloc(), value, Pretty(spaces), text)
 }
 
@@ -452,18 +450,25 @@ impl Sequence {
     }
 }
 
+fn expect_next_whole(rt: &impl Tester, sequence: &mut Sequence) -> Tested {
+    let value = sequence.value(rt.alloc())?;
+    expect_whole(rt, &value, value.dump(rt.alloc())?.as_str())
+}
+
+fn expect_next_held(rt: &impl Tester, sequence: &mut Sequence) -> Tested {
+    let key = sequence.text(rt.alloc())?;
+    let value = sequence.value(rt.alloc())?;
+    expect_held(rt, key.as_str(), &value, value.dump(rt.alloc())?.as_str())
+}
+
 /// The compact text, which `dump` is proved to return, is what the other calls are compared with.
 #[test]
 fn prints_copies_and_holds_generated_values(rt: HostRuntime) -> Tested {
-    let alloc = rt.alloc();
     let mut printed = Sequence { state: 1 };
     let mut held = Sequence { state: 2 };
     for _ in 0..500 {
-        let value = printed.value(alloc)?;
-        expect_whole(&rt, &value, value.dump(alloc)?.as_str())?;
-        let key = held.text(alloc)?;
-        let value = held.value(alloc)?;
-        expect_held(&rt, key.as_str(), &value, value.dump(alloc)?.as_str())?;
+        expect_next_whole(&rt, &mut printed)?;
+        expect_next_held(&rt, &mut held)?;
     }
     Ok(())
 }

@@ -198,20 +198,22 @@ fn failed_writes_counted(rt: HostRuntime) -> Tested {
     Ok(())
 }
 
-#[test]
-fn writes_the_whole_text(rt: HostRuntime) -> Tested {
-    let alloc = rt.alloc();
-    let samples = [small(alloc)?, large(alloc)?, wide(alloc)?];
-    for sample in &samples {
-        for how in HOWS {
-            let mut writer = SlowWriter::new(alloc, NO_FAILING_CALL, Trouble::TakesNothing);
-            how.write(sample, &mut writer)?;
-            let text = how.text(sample).as_bytes();
-            expect(&rt, "the text", writer.bytes.as_slice() == text);
-            expect_eq(&rt, "the flushes", writer.flushes, 0);
-        }
+fn expect_whole(rt: &impl Tester, sample: &Sample) -> Tested {
+    for how in HOWS {
+        let mut writer = SlowWriter::new(rt.alloc(), NO_FAILING_CALL, Trouble::TakesNothing);
+        how.write(sample, &mut writer)?;
+        let text = how.text(sample).as_bytes();
+        expect(rt, "the text", writer.bytes.as_slice() == text);
+        expect_eq(rt, "the flushes", writer.flushes, 0);
     }
     Ok(())
+}
+
+#[test]
+fn writes_the_whole_text(rt: HostRuntime) -> Tested {
+    expect_whole(&rt, &small(rt.alloc())?)?;
+    expect_whole(&rt, &large(rt.alloc())?)?;
+    expect_whole(&rt, &wide(rt.alloc())?)
 }
 
 /// The bytes of three calls were written, and the error is the writer's.
