@@ -199,7 +199,7 @@ fn rejects_late_faults(rt: HostRuntime) -> Result<(), Fail> {
 
 /// Whether the reading is strict, how a container is opened and closed, and how many open
 /// containers that is.
-const OPENED: [(bool, &str, &str, usize); 3] = [
+const OPENED: &[(bool, &str, &str, usize)] = &[
     (true, "[", "]", 1),
     (false, "{\"a\":", "}", 1),
     (true, "[{\"a\":", "}]", 2),
@@ -209,13 +209,13 @@ const OPENED: [(bool, &str, &str, usize); 3] = [
 /// it is rejected.
 fn expect_depth(rt: &impl Abort, alloc: Global, depth: u16) -> Result<(), Fail> {
     for (strict, open, close, count) in OPENED {
-        let repeated = usize::from(depth).checked_div(count).unwrap_or(0);
-        let inside = [(open, repeated), ("1", 1), (close, repeated)];
+        let repeated = usize::from(depth).checked_div(*count).unwrap_or(0);
+        let inside = [(*open, repeated), ("1", 1), (*close, repeated)];
         let text = joined(alloc, &inside)?;
-        let value = read(alloc, strict, depth, text.as_str())?;
+        let value = read(alloc, *strict, depth, text.as_str())?;
         expect(rt, open, value.dump(alloc)?.as_str() == text.as_str());
-        let text = joined(alloc, &[("[", 1), (open, repeated), ("[1", 1)])?;
-        let outcome = read(alloc, strict, depth, text.as_str());
+        let text = joined(alloc, &[("[", 1), (*open, repeated), ("[1", 1)])?;
+        let outcome = read(alloc, *strict, depth, text.as_str());
         expect(rt, open, matches!(outcome, Err(Error::ExceededDepthLimit)));
     }
     Ok(())

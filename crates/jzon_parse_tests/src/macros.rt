@@ -4,6 +4,7 @@ use crate::common::{expect, expect_dump};
 use jzon::{Error, JsonValue, Result, parse};
 use jzon_test_support::{Unconvertible, joined, keys_by_hash, object_text};
 use std::alloc::Global;
+use std::process::Abort;
 use std::test::Fail;
 
 fn containers(alloc: Global) -> Result<JsonValue> {
@@ -74,8 +75,25 @@ fn array(alloc: Global) -> Result<JsonValue> {
     Ok(jzon::array![alloc; 1, 2, 3, false, true, [], {}])
 }
 
+/// Each of these values, by its position in `BUILT`.
+fn built(alloc: Global, position: usize) -> Result<JsonValue> {
+    match position {
+        0 => containers(alloc),
+        1 => asked(alloc, "z"),
+        2 => elements(alloc, 1),
+        3 => members(alloc, 1, " z "),
+        4 => last_members(alloc, 1, " z "),
+        5 => forms(alloc, 1),
+        6 => values(alloc, 1),
+        7 => basic(alloc),
+        8 => listed(alloc),
+        9 => deep(alloc),
+        _ => array(alloc),
+    }
+}
+
 /// What these values dump, in this order.
-const BUILT: [&str; 11] = [
+const BUILT: &[&str] = &[
     "[{},{\"a\":null},[null],[],null,null]",
     "[{\"foo\":false,\"bar\":null,\"z\":42,\"list\":[null,\"world\",true]},{\"a\":2},[],{},[],{}]",
     "[-1,3,1,2,true,[-2,2],{\"a\":-3}]",
@@ -93,22 +111,10 @@ const BUILT: [&str; 11] = [
 #[test]
 fn builds_expressions(rt: HostRuntime) -> std::result::Result<(), Fail> {
     let alloc = rt.alloc();
-    let built = [
-        containers(alloc)?,
-        asked(alloc, "z")?,
-        elements(alloc, 1)?,
-        members(alloc, 1, " z ")?,
-        last_members(alloc, 1, " z ")?,
-        forms(alloc, 1)?,
-        values(alloc, 1)?,
-        basic(alloc)?,
-        listed(alloc)?,
-        deep(alloc)?,
-        array(alloc)?,
-    ];
-    for (value, text) in built.iter().zip(BUILT) {
-        expect_dump(&rt, alloc, value, text)?;
-        expect(&rt, text, parse(alloc, text)? == *value);
+    for (position, text) in BUILT.iter().enumerate() {
+        let value = built(alloc, position)?;
+        expect_dump(&rt, alloc, &value, text)?;
+        expect(&rt, text, parse(alloc, text)? == value);
     }
     Ok(())
 }
@@ -230,22 +236,21 @@ fn held(alloc: Global, large: &JsonValue) -> Result<JsonValue> {
     ])
 }
 
+/// The value of this text is held.
+fn expect_held(rt: &impl Abort, alloc: Global, text: &str) -> std::result::Result<(), Fail> {
+    let value = held(alloc, &parse(alloc, text)?)?;
+    let dump = format!(in alloc; "[{text},{text},[{text},{text}],{{\"a\":{text},\"b\":{text}}}]")?;
+    expect_dump(rt, alloc, &value, dump.as_str())
+}
+
 /// More elements, entries and bytes than 16 bits can count.
 #[test]
 fn builds_large_values(rt: HostRuntime) -> std::result::Result<(), Fail> {
     let alloc = rt.alloc();
-    let texts = [
-        joined(alloc, &[("[0", 1), (",0", 70000), ("]", 1)])?,
-        object_text(alloc, keys_by_hash(alloc, 70000)?.as_slice())?,
-        joined(alloc, &[("\"", 1), ("plain", 40000), ("\"", 1)])?,
-    ];
-    for text in &texts {
-        let value = held(alloc, &parse(alloc, text.as_str())?)?;
-        let text = text.as_str();
-        let dump = format!(in alloc;
-            "[{text},{text},[{text},{text}],{{\"a\":{text},\"b\":{text}}}]"
-        )?;
-        expect_dump(&rt, alloc, &value, dump.as_str())?;
-    }
-    Ok(())
+    let array = joined(alloc, &[("[0", 1), (",0", 70000), ("]", 1)])?;
+    expect_held(&rt, alloc, array.as_str())?;
+    let object = object_text(alloc, keys_by_hash(alloc, 70000)?.as_slice())?;
+    expect_held(&rt, alloc, object.as_str())?;
+    let string = joined(alloc, &[("\"", 1), ("plain", 40000), ("\"", 1)])?;
+    expect_held(&rt, alloc, string.as_str())
 }
