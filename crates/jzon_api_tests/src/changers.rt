@@ -134,9 +134,11 @@ fn removes(rt: HostRuntime) -> Tested {
     Ok(())
 }
 
+const REMOVALS: &[Removal] = &[Removal::Pop, Removal::At(0), Removal::Key("a")];
+
 /// There is nothing in it to remove, and it stays as it was.
 fn remove_nothing(rt: &impl Tester, text: &str, mut value: JsonValue) -> Tested {
-    for removal in [Removal::Pop, Removal::At(0), Removal::Key("a")] {
+    for removal in REMOVALS {
         expect(rt, text, removal.from(&mut value).is_null());
     }
     expect_dump(rt, &value, text)
@@ -239,7 +241,7 @@ enum Change {
     EntriesMut,
 }
 
-const CHANGES: [Change; 18] = [
+const CHANGES: &[Change] = &[
     Push, Insert, AtMut, AtIndexMut, WriteAt, WriteIndex, WriteOver, Pop, RemoveAt, Remove, Clear,
     Take, TakeString, GetMut, ObjectMut, ArrayMut, MembersMut, EntriesMut,
 ];
@@ -332,7 +334,7 @@ fn expect_change(rt: &impl Tester, change: Change, mut value: JsonValue) -> Test
 fn changes_each_kind(rt: HostRuntime) -> Tested {
     for change in CHANGES {
         for (_, value) in each_value(rt.alloc())? {
-            expect_change(&rt, change, value)?;
+            expect_change(&rt, *change, value)?;
         }
     }
     Ok(())

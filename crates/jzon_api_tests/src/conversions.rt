@@ -1,6 +1,6 @@
 //! Conversions into values: by `into_json` and `from_pairs`, and by `From`, which allocates nothing.
 
-use crate::common::{Tested, expect, expect_dump, expect_eq};
+use crate::common::{Tested, Tester, expect, expect_dump, expect_eq};
 use jzon::number::{NAN, Number};
 use jzon::object::Object;
 use jzon::{Error, IntoJson, JsonValue, Result};
@@ -80,14 +80,23 @@ fn converts_maps(rt: HostRuntime) -> Tested {
     let alloc = rt.alloc();
     expect_converted(&rt, alloc, BTreeMap::<&str, u8>::new(alloc), "{}")?;
     expect_converted(&rt, alloc, HashMap::<String, u8>::new(alloc), "{}")?;
+    let map = mapped(alloc)?;
+    expect_converted(&rt, alloc, map, "{\"age\":30,\"name\":\"Maciej\"}")?;
+    expect_converted(&rt, alloc, owned_map(alloc)?, "{\"a\":1,\"b\":2}")
+}
+
+fn mapped(alloc: Global) -> Result<BTreeMap<&'static str, JsonValue>> {
     let mut map = BTreeMap::new(alloc);
     map.insert("name", "Maciej".into_json(alloc)?)?;
     map.insert("age", 30u8.into_json(alloc)?)?;
-    expect_converted(&rt, alloc, map, "{\"age\":30,\"name\":\"Maciej\"}")?;
+    Ok(map)
+}
+
+fn owned_map(alloc: Global) -> Result<BTreeMap<String, u8>> {
     let mut map = BTreeMap::new(alloc);
     map.insert(String::from_str(alloc, "b")?, 2u8)?;
     map.insert(String::from_str(alloc, "a")?, 1u8)?;
-    expect_converted(&rt, alloc, map, "{\"a\":1,\"b\":2}")
+    Ok(map)
 }
 
 #[test]
@@ -170,24 +179,34 @@ impl IntoJson for Counted<'_> {
 /// once each, and those of a list aren't.
 #[test]
 fn converts_in_order(rt: HostRuntime) -> Tested {
-    let alloc = rt.alloc();
     let counts = fresh_counts(u64::MAX);
-    let list = vec![in alloc; Counted(&counts), Counted(&counts), Counted(&counts)]?;
-    expect_converted(&rt, alloc, list.as_slice(), "[0,1,2]")?;
-    expect_eq(&rt, "of a slice", counts.clones.get(), 3);
-    expect_converted(&rt, alloc, list, "[3,4,5]")?;
-    expect_eq(&rt, "of a list", counts.clones.get(), 3);
-    let pairs = ["b", "a", "b"]
-        .into_iter()
-        .map(|key| (key, Counted(&counts)));
-    let object = Object::from_pairs(alloc, pairs)?;
-    expect_converted(&rt, alloc, object, "{\"b\":8,\"a\":7}")?;
-    let mut map = BTreeMap::new(alloc);
-    map.insert("b", Counted(&counts))?;
-    map.insert("a", Counted(&counts))?;
-    expect_converted(&rt, alloc, map, "{\"a\":9,\"b\":10}")?;
+    expect_lists_in_order(&rt, &counts)?;
+    expect_objects_in_order(&rt, &counts)?;
     expect_eq(&rt, "the conversions", counts.conversions.get(), 11);
     Ok(())
+}
+
+fn expect_lists_in_order(rt: &impl Tester, counts: &Counts) -> Tested {
+    let alloc = rt.alloc();
+    let list = vec![in alloc; Counted(counts), Counted(counts), Counted(counts)]?;
+    expect_converted(rt, alloc, list.as_slice(), "[0,1,2]")?;
+    expect_eq(rt, "of a slice", counts.clones.get(), 3);
+    expect_converted(rt, alloc, list, "[3,4,5]")?;
+    expect_eq(rt, "of a list", counts.clones.get(), 3);
+    Ok(())
+}
+
+fn expect_objects_in_order(rt: &impl Tester, counts: &Counts) -> Tested {
+    let alloc = rt.alloc();
+    let pairs = ["b", "a", "b"]
+        .into_iter()
+        .map(|key| (key, Counted(counts)));
+    let object = Object::from_pairs(alloc, pairs)?;
+    expect_converted(rt, alloc, object, "{\"b\":8,\"a\":7}")?;
+    let mut map = BTreeMap::new(alloc);
+    map.insert("b", Counted(counts))?;
+    map.insert("a", Counted(counts))?;
+    expect_converted(rt, alloc, map, "{\"a\":9,\"b\":10}")
 }
 
 /// The second of three conversions failed, and there is no third.
@@ -204,18 +223,26 @@ fn converts_until_one_fails(rt: HostRuntime) -> Tested {
     let list = vec![in alloc; Counted(&counts), Counted(&counts), Counted(&counts)]?;
     expect_stopped(&rt, list.as_slice().into_json(alloc), &counts);
     expect_stopped(&rt, list.into_json(alloc), &counts);
-    let mut map = BTreeMap::new(alloc);
-    let mut hash_map = HashMap::new(alloc);
-    for key in ["a", "b", "c"] {
-        map.insert(key, Counted(&counts))?;
-        hash_map.insert(String::from_str(alloc, key)?, Counted(&counts))?;
-    }
-    expect_stopped(&rt, map.into_json(alloc), &counts);
-    expect_stopped(&rt, hash_map.into_json(alloc), &counts);
-    let pairs = ["a", "b", "c"]
-        .into_iter()
-        .map(|key| (key, Counted(&counts)));
+    expect_stopped_maps(&rt, &counts)?;
+    let pairs = KEYS.iter().map(|key| (*key, Counted(&counts)));
     expect_stopped(&rt, Object::from_pairs(alloc, pairs), &counts);
+    Ok(())
+}
+
+const KEYS: &[&str] = &["a", "b", "c"];
+
+fn expect_stopped_maps(rt: &impl Tester, counts: &Counts) -> Tested {
+    let alloc = rt.alloc();
+    let mut map = BTreeMap::new(alloc);
+    for key in KEYS {
+        map.insert(*key, Counted(counts))?;
+    }
+    expect_stopped(rt, map.into_json(alloc), counts);
+    let mut map = HashMap::new(alloc);
+    for key in KEYS {
+        map.insert(String::from_str(alloc, key)?, Counted(counts))?;
+    }
+    expect_stopped(rt, map.into_json(alloc), counts);
     Ok(())
 }
 

@@ -121,22 +121,25 @@ fn borrows_nothing_of_another_kind(rt: HostRuntime) -> Tested {
 
 #[test]
 fn borrows_what_is_there(rt: HostRuntime) -> Tested {
-    let alloc = rt.alloc();
-    let mut value = parse(alloc, "{\"a\":[1]}")?;
-    expect(&rt, "no b", value.get_mut("b").is_none());
-    if let Some(place) = value.get_mut("a") {
-        place.push(alloc, 2)?;
-    }
-    expect_dump(&rt, &value, "{\"a\":[1,2]}")?;
-    if let Some(object) = value.as_object_mut() {
-        object.clear();
-    }
-    expect_dump(&rt, &value, "{}")?;
-    let mut value = parse(alloc, "[1]")?;
+    borrow_entries(&rt, parse(rt.alloc(), "{\"a\":[1]}")?)?;
+    let mut value = parse(rt.alloc(), "[1]")?;
     if let Some(items) = value.as_array_mut() {
         items.clear();
     }
     expect_dump(&rt, &value, "[]")
+}
+
+/// It is `{"a":[1]}`.
+fn borrow_entries(rt: &impl Tester, mut value: JsonValue) -> Tested {
+    expect(rt, "no b", value.get_mut("b").is_none());
+    if let Some(place) = value.get_mut("a") {
+        place.push(rt.alloc(), 2)?;
+    }
+    expect_dump(rt, &value, "{\"a\":[1,2]}")?;
+    if let Some(object) = value.as_object_mut() {
+        object.clear();
+    }
+    expect_dump(rt, &value, "{}")
 }
 
 /// From the back, each element becomes the one that was taken before it, and the last one null.
@@ -208,18 +211,20 @@ fn writes(rt: HostRuntime) -> Tested {
     expect_dump(&rt, &value, "[null,4]")
 }
 
+fn make_keys(rt: &impl Tester, mut object: Object) -> Tested {
+    let alloc = rt.alloc();
+    *object.at_mut(alloc, "a")? = number(1);
+    expect(rt, "b", object.at_mut(alloc, "b")?.is_null());
+    expect(rt, "a", object.at_mut(alloc, "a")?.eq_u64(1));
+    *object.at_mut(alloc, "a")? = number(2);
+    expect_text(rt, &object, "{\"a\":2,\"b\":null}")
+}
+
 /// An object without entries lends the values of two keys, also one that has room.
 #[test]
 fn objects_make_keys(rt: HostRuntime) -> Tested {
-    let alloc = rt.alloc();
-    for mut object in [Object::new(alloc), Object::with_capacity(alloc, 5)?] {
-        *object.at_mut(alloc, "a")? = number(1);
-        expect(&rt, "b", object.at_mut(alloc, "b")?.is_null());
-        expect(&rt, "a", object.at_mut(alloc, "a")?.eq_u64(1));
-        *object.at_mut(alloc, "a")? = number(2);
-        expect_text(&rt, &object, "{\"a\":2,\"b\":null}")?;
-    }
-    Ok(())
+    make_keys(&rt, Object::new(rt.alloc()))?;
+    make_keys(&rt, Object::with_capacity(rt.alloc(), 5)?)
 }
 
 /// A caller's proof knows what was written.

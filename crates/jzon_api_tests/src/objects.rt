@@ -262,31 +262,39 @@ fn lists_keys_and_values(rt: HostRuntime) -> Tested {
 /// A key that no object of these has.
 const NEW: &str = "0123456789abcdef0123456789abcdef01234567";
 
-/// The objects of these many entries, which are `true` under keys of six and of 38 bytes: one that
-/// grew, one that had room before, and two that had an entry more, which was removed.
-fn objects(alloc: Global, count: u32) -> Result<[Object; 4]> {
-    let mut grown = Object::new(alloc);
-    fill(alloc, &mut grown, count)?;
-    let mut roomy = Object::with_capacity(alloc, 40)?;
-    fill(alloc, &mut roomy, count)?;
-    let mut removed = Object::new(alloc);
-    fill(alloc, &mut removed, count)?;
-    removed.insert(alloc, NEW, JsonValue::Null)?;
-    drop(removed.remove(NEW));
-    let mut retained = Object::new(alloc);
-    retained.insert(alloc, NEW, JsonValue::Null)?;
-    fill(alloc, &mut retained, count)?;
-    retained.retain(|key, _| key != NEW);
-    Ok([grown, roomy, removed, retained])
+/// An object of these many entries, which are `true` under keys of six and of 38 bytes. By 0 it grew,
+/// by 1 it had room before, and by 2 and 3 it had an entry more, which was removed.
+fn made(by: u8, alloc: Global, count: u32) -> Result<Object> {
+    match by {
+        0 => filled(alloc, Object::new(alloc), count),
+        1 => filled(alloc, Object::with_capacity(alloc, 40)?, count),
+        2 => removed(alloc, count),
+        _ => retained(alloc, count),
+    }
 }
 
-fn fill(alloc: Global, object: &mut Object, count: u32) -> Result<()> {
+fn removed(alloc: Global, count: u32) -> Result<Object> {
+    let mut object = filled(alloc, Object::new(alloc), count)?;
+    object.insert(alloc, NEW, JsonValue::Null)?;
+    drop(object.remove(NEW));
+    Ok(object)
+}
+
+fn retained(alloc: Global, count: u32) -> Result<Object> {
+    let mut object = Object::new(alloc);
+    object.insert(alloc, NEW, JsonValue::Null)?;
+    let mut object = filled(alloc, object, count)?;
+    object.retain(|key, _| key != NEW);
+    Ok(object)
+}
+
+fn filled(alloc: Global, mut object: Object, count: u32) -> Result<Object> {
     for number in 0..count {
         let width = if number % 3 == 0 { 38 } else { 6 };
         let key = format!(in alloc; "{number:0width$}")?;
         object.insert(alloc, key.as_str(), JsonValue::Boolean(true))?;
     }
-    Ok(())
+    Ok(object)
 }
 
 /// A call on an object. `SetLast` is `override_last`.
@@ -304,7 +312,7 @@ enum Call {
     CloneAll,
 }
 
-const CALLS: [Call; 10] = [
+const CALLS: &[Call] = &[
     Insert, AtMut, SetLast, Remove, Retain, Clear, GetMut, IterMut, IntoIter, CloneAll,
 ];
 
@@ -352,14 +360,16 @@ impl Call {
     }
 }
 
+const COUNTS: &[u32] = &[0, 1, 2, 32, 33, 40, 300];
+
 #[test]
 fn changes_objects_of_each_room(rt: HostRuntime) -> Tested {
     let alloc = rt.alloc();
     for call in CALLS {
-        for count in [0, 1, 2, 32, 33, 40, 300] {
-            for object in objects(alloc, count)? {
-                let left = call.call(alloc, object)?;
-                expect(&rt, "what is left", left == call.left(count as usize));
+        for count in COUNTS {
+            for by in 0..4 {
+                let left = call.call(alloc, made(by, alloc, *count)?)?;
+                expect(&rt, "what is left", left == call.left(*count as usize));
             }
         }
     }

@@ -226,7 +226,7 @@ fn contains_elements_of_each_kind(rt: HostRuntime) -> Tested {
 const NESTED: &str = "{\"list\":[null,\"world\",true,7],\"map\":{\"a\":null}}";
 
 /// The elements of the list: their kinds, and what is read of them.
-const ELEMENTS: [(Kinds, Primitive<'static>); 4] = [
+const ELEMENTS: &[(Kinds, Primitive<'static>)] = &[
     (NULL, (None, None, None)),
     (STRING, (Some("world"), None, None)),
     (BOOLEAN, (None, None, Some(true))),

@@ -93,20 +93,19 @@ const CLONED: &[&str] = &[
 /// By `clone` and by std's `Clone`, alone, in a list and in a slice. A string that is allocated stays
 /// so, however short it is.
 fn expect_copies(rt: &impl Tester, value: JsonValue, text: &str) -> Tested {
-    let alloc = rt.alloc();
+    expect_copy(rt, &value.clone(rt.alloc())?, &value, text)?;
+    expect_copy(rt, &Clone::clone(&value)?, &value, text)?;
+    let items = vec![in rt.alloc(); value]?;
+    let list = joined(rt.alloc(), &[("[", 1), (text, 1), ("]", 1)])?;
+    expect_dump(rt, &items.as_slice().into_json(rt.alloc())?, list.as_str())?;
+    expect_dump(rt, &JsonValue::Array(items.clone()?), list.as_str())
+}
+
+fn expect_copy(rt: &impl Tester, copy: &JsonValue, value: &JsonValue, text: &str) -> Tested {
+    expect_equal(rt, copy, value, true);
     let is_allocated = matches!(value, JsonValue::String(_));
-    for copy in [value.clone(alloc)?, Clone::clone(&value)?] {
-        expect_equal(rt, &copy, &value, true);
-        expect_dump(rt, &copy, text)?;
-        expect_eq(rt, text, matches!(copy, JsonValue::String(_)), is_allocated);
-    }
-    let items = vec![in alloc; value]?;
-    let sliced = items.as_slice().into_json(alloc)?;
-    let list = joined(alloc, &[("[", 1), (text, 1), ("]", 1)])?;
-    for copy in [JsonValue::Array(items.clone()?), sliced] {
-        expect_dump(rt, &copy, list.as_str())?;
-    }
-    Ok(())
+    expect_eq(rt, text, matches!(copy, JsonValue::String(_)), is_allocated);
+    expect_dump(rt, copy, text)
 }
 
 /// An empty string, a short one and one of 31 bytes that are allocated are among these values.
