@@ -34,7 +34,7 @@ fn expect_returned(rt: &impl Abort, alloc: Global, trouble: Trouble) -> Result<(
 #[test]
 fn returns_each_error(rt: HostRuntime) -> Result<(), Fail> {
     for trouble in FAILURES {
-        expect_returned(&rt, rt.alloc(), trouble)?;
+        expect_returned(&rt, rt.alloc(), *trouble)?;
     }
     expect_returned(&rt, rt.alloc(), Trouble::TakesNothing)
 }
