@@ -13,8 +13,9 @@ ghost use Rattle.jzon.specs.Private.Stops.{IsAtBoundary, reported_error};
 use jzon_base::error::Error;
 use std::alloc::AllocError;
 
-/// Why the parser stops. Its functions return this in place of an `Error`, which is made at the end:
-/// a result that may hold an `Error` has 48 bytes, which are cleared each time that one is made.
+/// Why the parser stops. Its functions return this in place of an `Error`, which is made at the
+/// end: a result that may hold an `Error` has 40 bytes or more, which are cleared each time that
+/// one is made.
 #[derive(Clone, Copy)]
 pub(crate) enum Stop {
     /// An allocation failed.

@@ -1,4 +1,5 @@
--- Private definitions: how the code relates to those that public clauses cite. No public clause of `jzon` cites them.
+-- Private definitions: how the code relates to those that public clauses cite. Of them the public clauses of `jzon` cite
+-- only `value_at` and `Knows`.
 pub mod Filter
 pub mod Handed
 pub mod Hash

@@ -52,8 +52,8 @@ impl Key {
     }
 
     /// Appends the key with this text, with which `wide` begins, to `keys`. It is made there, so
-    /// that it isn't moved. If `wide` has 32 bytes or more, 32 of them are copied at once, which is
-    /// faster. The error is a failed allocation.
+    /// that it isn't moved. A text of up to 32 bytes is copied with 32 bytes of `wide` at once, if
+    /// `wide` can be cut there, which is faster. The error is a failed allocation.
     #[doc(hidden)]
     #[inline(always)]
     pub fn push_wide(

@@ -6,8 +6,8 @@
 //! in the order of hashes and texts; each is asked by binary search, so that the time doesn't
 //! depend on which hashes the keys have.
 //!
-//! `from_entries` sorts the index entries of more than 32 keys once. If no key repeats, they are the
-//! index; else, and for fewer keys, the entries of the object are put one after the other.
+//! `from_entries` sorts the index entries of more than 32 keys once. If no key repeats, they are
+//! the index; else, and for fewer keys, the entries of the object are put one after the other.
 //!
 //! In clauses, `bytes_eq` is the equality of keys. `IsIndexed keys index` says that the index is
 //! empty or has the entries of exactly these keys, and `IsTable keys index` that the keys are
@@ -288,7 +288,8 @@ impl Keys {
             Ok(position) => return Ok(Some(position)),
             Err(spot) => spot,
         };
-        // All allocations come before `Key::push`, so a failed one leaves the keys as they were.
+        // All allocations come before the key is pushed, so a failed one leaves the keys as they
+        // were.
         reserve_next(values)?;
         reserve_next(&mut self.keys)?;
         let key = Key::new(alloc, name)?;

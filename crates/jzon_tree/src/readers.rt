@@ -1,4 +1,5 @@
-//! Reading values (docs/RULES.md, "Readers"). None of these calls allocates.
+//! Reading values (docs/RULES.md, "Readers"). None of these calls allocates. In clauses, `same`
+//! compares as `==` does, so the kind `short` of a text doesn't count.
 #![tactic(auto, using(crate::proofs::Values::Views::views, crate::proofs::Values::PartViews::seen))]
 
 ghost use Rattle.std.specs.Prelude.{◌≡◌, map, is_some, option_map};

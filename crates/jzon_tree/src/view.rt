@@ -2,7 +2,9 @@
 //!
 //! In clauses, `shown v` is the value that the view `v` shows, or none if it is missing, and `seen
 //! v` is this value, or null if it is missing. `SomeWhere o P r` says that `r` is `Some` of the
-//! integer in `o`, if there is one and `P` holds of it, and else `None`.
+//! integer in `o`, if there is one and `P` holds of it, and else `None`. A definition such as
+//! `unsigned_fixed_point_in v point` is what the reading of that name gives, if it gives an
+//! integer, of any size. `same` compares as `==` does, so the kind `short` of a text doesn't count.
 #![tactic(auto, using(crate::proofs::Values::Views::views, crate::proofs::Values::PartViews::seen))]
 
 ghost use Rattle.std.specs.Prelude.{◌≡◌, ◌<◌, ◌^◌, pos, map, is_some, option_map, slice_get, FitsSigned, Some};
@@ -234,77 +236,89 @@ impl<'a> View<'a> {
         self.as_bool() == Some(other)
     }
 
-    /// As `JsonValue::as_u64`. `None` if the value is missing.
+    /// The number as `JsonValue::as_u64` reads it: its exponent is 0, and it fits. `None` if the
+    /// value is missing.
     pub fn as_u64(self) -> Option<u64>
         ensures { SomeWhere (unsigned_in (seen self.entry)) (λ n. n < 2 ^ 64) result }
     {
         self.value?.as_u64()
     }
 
-    /// As `JsonValue::as_u32`. `None` if the value is missing.
+    /// The number as `JsonValue::as_u32` reads it: its exponent is 0, and it fits. `None` if the
+    /// value is missing.
     pub fn as_u32(self) -> Option<u32>
         ensures { SomeWhere (unsigned_in (seen self.entry)) (λ n. n < 2 ^ 32) result }
     {
         self.value?.as_u32()
     }
 
-    /// As `JsonValue::as_u16`. `None` if the value is missing.
+    /// The number as `JsonValue::as_u16` reads it: its exponent is 0, and it fits. `None` if the
+    /// value is missing.
     pub fn as_u16(self) -> Option<u16>
         ensures { SomeWhere (unsigned_in (seen self.entry)) (λ n. n < 2 ^ 16) result }
     {
         self.value?.as_u16()
     }
 
-    /// As `JsonValue::as_u8`. `None` if the value is missing.
+    /// The number as `JsonValue::as_u8` reads it: its exponent is 0, and it fits. `None` if the
+    /// value is missing.
     pub fn as_u8(self) -> Option<u8>
         ensures { SomeWhere (unsigned_in (seen self.entry)) (λ n. n < 2 ^ 8) result }
     {
         self.value?.as_u8()
     }
 
-    /// As `JsonValue::as_usize`. `None` if the value is missing.
+    /// The number as `JsonValue::as_usize` reads it: its exponent is 0, and it fits. `None` if the
+    /// value is missing.
     pub fn as_usize(self) -> Option<usize>
         ensures { SomeWhere (unsigned_in (seen self.entry)) (λ n. n < 2 ^ 64) result }
     {
         self.value?.as_usize()
     }
 
-    /// As `JsonValue::as_i64`. `None` if the value is missing.
+    /// The number as `JsonValue::as_i64` reads it: its exponent is 0, and it fits. `None` if the
+    /// value is missing.
     pub fn as_i64(self) -> Option<i64>
         ensures { SomeWhere (integer_in (seen self.entry)) (FitsSigned w64) result }
     {
         self.value?.as_i64()
     }
 
-    /// As `JsonValue::as_i32`. `None` if the value is missing.
+    /// The number as `JsonValue::as_i32` reads it: its exponent is 0, and it fits. `None` if the
+    /// value is missing.
     pub fn as_i32(self) -> Option<i32>
         ensures { SomeWhere (integer_in (seen self.entry)) (FitsSigned w32) result }
     {
         self.value?.as_i32()
     }
 
-    /// As `JsonValue::as_i16`. `None` if the value is missing.
+    /// The number as `JsonValue::as_i16` reads it: its exponent is 0, and it fits. `None` if the
+    /// value is missing.
     pub fn as_i16(self) -> Option<i16>
         ensures { SomeWhere (integer_in (seen self.entry)) (FitsSigned w16) result }
     {
         self.value?.as_i16()
     }
 
-    /// As `JsonValue::as_i8`. `None` if the value is missing.
+    /// The number as `JsonValue::as_i8` reads it: its exponent is 0, and it fits. `None` if the
+    /// value is missing.
     pub fn as_i8(self) -> Option<i8>
         ensures { SomeWhere (integer_in (seen self.entry)) (FitsSigned w8) result }
     {
         self.value?.as_i8()
     }
 
-    /// As `JsonValue::as_isize`. `None` if the value is missing.
+    /// The number as `JsonValue::as_isize` reads it: its exponent is 0, and it fits. `None` if the
+    /// value is missing.
     pub fn as_isize(self) -> Option<isize>
         ensures { SomeWhere (integer_in (seen self.entry)) (FitsSigned w64) result }
     {
         self.value?.as_isize()
     }
 
-    /// As `JsonValue::as_fixed_point_u64`. `None` if the value is missing.
+    /// `mantissa * 10 ^ (exponent + point)`, truncated to an integer: with 2, `5.999` is 599.
+    /// `None` if the sign is negative, if the result doesn't fit, for NaN, and if the value is
+    /// missing.
     pub fn as_fixed_point_u64(self, point: u16) -> Option<u64>
         ensures { SomeWhere (unsigned_fixed_point_in (seen self.entry) point)
             (λ n. n < 2 ^ 64) result }
@@ -312,14 +326,16 @@ impl<'a> View<'a> {
         self.value?.as_fixed_point_u64(point)
     }
 
-    /// As `JsonValue::as_fixed_point_i64`. `None` if the value is missing.
+    /// `mantissa * 10 ^ (exponent + point)`, truncated to an integer, with its sign: with 2,
+    /// `-5.999` is -599. `None` if the result doesn't fit, for NaN, and if the value is missing.
     pub fn as_fixed_point_i64(self, point: u16) -> Option<i64>
         ensures { SomeWhere (fixed_point_in (seen self.entry) point) (FitsSigned w64) result }
     {
         self.value?.as_fixed_point_i64(point)
     }
 
-    /// As `JsonValue::as_exact_fixed_point_u64`. `None` if the value is missing.
+    /// As `as_fixed_point_u64`, and `None` if a digit other than 0 would be cut: with 2, `5.990` is
+    /// 599, and `5.999` is `None`.
     pub fn as_exact_fixed_point_u64(self, point: u16) -> Option<u64>
         ensures { SomeWhere (exact_unsigned_fixed_point_in (seen self.entry) point)
             (λ n. n < 2 ^ 64) result }
@@ -327,7 +343,8 @@ impl<'a> View<'a> {
         self.value?.as_exact_fixed_point_u64(point)
     }
 
-    /// As `JsonValue::as_exact_fixed_point_i64`. `None` if the value is missing.
+    /// As `as_fixed_point_i64`, and `None` if a digit other than 0 would be cut: with 2, `-5.990`
+    /// is -599, and `-5.999` is `None`.
     pub fn as_exact_fixed_point_i64(self, point: u16) -> Option<i64>
         ensures { SomeWhere (exact_fixed_point_in (seen self.entry) point) (FitsSigned w64) result }
     {

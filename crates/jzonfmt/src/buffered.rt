@@ -1,9 +1,10 @@
 //! A buffered writer whose contract says that its writer stays the same.
 //!
-//! In clauses, `W.contents w` are the bytes of the writer `w`, if they are known. `held W.contents
-//! S.start b` are these and the bytes in the buffer after them, and `left b` are the latter alone.
-//! `Keeps before after` says that bytes stay, and `Appends before after bytes` that these bytes are
-//! added.
+//! In clauses, `W.contents w` are the bytes of the writer `w`, if they are known, and `left b` are
+//! those in the buffer, which the writer didn't take yet. `held W.contents S.start b` are the name
+//! of the reference to the writer, its bytes, and then those in the buffer. They are known only if
+//! the writer's bytes are, and are at least `S.start`. So a call that keeps them (`Keeps before
+//! after`), or adds bytes to them (`Appends before after bytes`), kept the writer and its bytes.
 
 ghost use Rattle.std.specs.Prelude.{◌≡◌, ℕ, ◌+◌, ◌≤◌, [], length, take, vec_len, vec_capacity, MatchOption, OnOk, IfNone, IfSome, IsSome};
 ghost use Rattle.std.specs.Io.KnownBytes.{Appends, Keeps};
@@ -138,8 +139,8 @@ impl<W: Write, S: Start> Write for Buffered<'_, W, S> {
 
     ghost contents = { held W.contents S.start };
 
-    /// Holds the bytes if there is room for all of them. Otherwise writes out what is held, and then
-    /// holds as many of them as there is room for.
+    /// Holds the bytes if there is room for all of them. Otherwise writes out what is held, and
+    /// then holds as many of them as there is room for.
     #[inline(always)]
     fn write(&mut self, buf: &[u8]) -> io::Result<usize> {
         if buf.len() <= self.bytes.capacity() - self.bytes.len() {

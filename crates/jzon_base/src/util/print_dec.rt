@@ -38,9 +38,10 @@ pub fn write<W: Write>(wr: &mut W, positive: bool, n: u64, exponent: i16) -> io:
     write_bytes(wr, text.as_str().as_bytes())
 }
 
-/// Adds the text of the number if it is the mantissa's digits, with at most a minus before them and
-/// a point before the last 1 to 16, and there is room, and returns whether it did. Otherwise, and
-/// for 0, nothing is added.
+/// Adds the text of a common number, in a few stores, and returns whether it did. The caller writes
+/// any other number by `number_text`. A common number isn't 0; its text has no exponent, doesn't
+/// begin with `0.` or `-0.`, and has at most 16 digits after a point. Nothing is added either if too
+/// few bytes are free.
 #[doc(hidden)]
 #[inline(always)]
 pub fn push_digits(bytes: &mut Vec<u8>, positive: bool, mantissa: u64, exponent: i16) -> bool
@@ -134,8 +135,8 @@ pub fn number_text(positive: bool, mantissa: u64, exponent: i16) -> NumberText
     text
 }
 
-/// Adds digits with their exponent: as they are, with zeros after them, with a point between them, or
-/// with an exponent (docs/RULES.md, "Printed numbers").
+/// Adds digits with their exponent: as they are, with zeros after them, with a point between them,
+/// or with an exponent (docs/RULES.md, "Printed numbers").
 fn push_magnitude(text: &mut NumberText, digits: &str, exponent: i16)
     requires ascii { IsAscii digits.now }
     requires some { 0 < length digits.now }

@@ -8,7 +8,9 @@
 //! (IsValue v)` for the writings of `v`: a part of `v` isn't read after an error, so the proof
 //! doesn't know there whether `v` is a value. `AreItems`, `AreMembers`, `IsEntry`, `IsBetween` and
 //! `IsClosing` allow the bytes of a part: all elements, all entries, one entry, what is before an
-//! element or an entry, and what ends a container.
+//! element or an entry, and what ends a container. `Writes style dent v` holds of each text of `v`
+//! that the style allows inside of `dent` indents. `IsValue v` says what the types of its parts
+//! promise: numbers in range, strings of UTF-8, distinct keys.
 
 ghost use Rattle.std.specs.Prelude.{◌≡◌, ◌-◌, ◌<◌, [], length, map, slice_index_or, OnOk, OnErr, IsSome};
 ghost use Rattle.jzon_base.specs.PairList.{keys_of};
@@ -136,8 +138,8 @@ fn write_items<G: Generator>(g: &mut G, items: &[JsonValue], slot: &mut ErrorSlo
     Ok(())
 }
 
-/// Asks for the order of the entries. Then writes `{}`, or the brackets of an object and its entries
-/// between them, in an indent of their own.
+/// Asks for the order of the entries. Then writes `{}`, or the brackets of an object and its
+/// entries between them, in an indent of their own.
 #[cycle(write_value)]
 #[inline(never)]
 pub(crate) fn write_pairs<G: Generator>(

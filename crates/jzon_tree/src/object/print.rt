@@ -1,5 +1,7 @@
 //! The texts of objects (docs/RULES.md, "Layouts"). In clauses, `Writes style 0 v` holds of each
-//! text of `v` that the style allows.
+//! text of `v` that the style allows. `IsValue v` says what the types of its parts promise: numbers
+//! in range, strings of UTF-8, distinct keys. The laws on reading back need this, so calls that
+//! print ensure it.
 
 ghost use Rattle.std.specs.Prelude.{◌≡◌, ◌<◌, ◌≤◌, ◌^◌, IfOk, IsOkUnless, string_bytes};
 ghost use Rattle.jzon_tree.specs.Lawful.{IsValue};

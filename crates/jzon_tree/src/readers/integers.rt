@@ -1,6 +1,7 @@
 //! Reading values as integers (docs/RULES.md, "Integer readings" and "Fixed-point readings"). In
 //! clauses, `SomeWhere o P r` says that `r` is `Some` of the integer in `o`, if there is one and
-//! `P` holds of it, and else `None`.
+//! `P` holds of it, and else `None`. A definition such as `unsigned_fixed_point_in v point` is what
+//! the reading of that name gives, if it gives an integer, of any size.
 
 ghost use Rattle.std.specs.Prelude.{◌≡◌, ◌<◌, ◌^◌, pos, FitsSigned};
 ghost use Rattle.std.specs.Int.{w8, w16, w32, w64};
@@ -14,8 +15,8 @@ use crate::value::JsonValue;
 
 impl JsonValue {
     /// The number as a `u64`, if its exponent is 0, its sign is positive, and it fits. `None` also
-    /// for most integers that are written with a point or an exponent, as `1.0`, `1e2` and `100e-2`:
-    /// `as_exact_fixed_point_u64(0)` returns these.
+    /// for most integers that are written with a point or an exponent, as `1.0`, `1e2` and
+    /// `100e-2`: `as_exact_fixed_point_u64(0)` returns these.
     ///
     /// ```rust
     /// config.at("limits").at("timeout").as_u64().unwrap_or(30)

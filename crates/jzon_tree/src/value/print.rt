@@ -1,6 +1,8 @@
 //! The texts of values (docs/RULES.md, "Layouts"). In clauses, `Writes style 0 v` holds of each
 //! text of `v` that the style allows, and `Sends P before after result` says that a writer receives
-//! bytes for which `P` holds, or after an error a prefix of such bytes.
+//! bytes for which `P` holds, or after an error a prefix of such bytes. `IsValue v` says what the
+//! types of its parts promise: numbers in range, strings of UTF-8, distinct keys. The laws on
+//! reading back need this, so calls that print ensure it.
 
 ghost use Rattle.std.specs.Prelude.{◌≡◌, ◌<◌, ◌≤◌, ◌^◌, OnOk, OnErr, IfOk, IsOkUnless, string_bytes};
 ghost use Rattle.std.specs.Io.KnownBytes.{Appends};
