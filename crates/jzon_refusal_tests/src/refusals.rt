@@ -56,6 +56,17 @@ fn set(value: &mut JsonValue, made: Result<JsonValue>) -> Result<()> {
     Ok(())
 }
 
+/// The reference isn't used.
+fn borrow_at(value: &mut JsonValue, alloc: Global, key: &str) -> Result<()> {
+    value.at_mut(alloc, key)?;
+    Ok(())
+}
+
+fn borrow_at_index(value: &mut JsonValue, alloc: Global, index: usize) -> Result<()> {
+    value.at_index_mut(alloc, index)?;
+    Ok(())
+}
+
 /// It holds of this row. To prove an assertion takes seconds, and a call of this hardly any time.
 fn expect(rt: &impl Abort, row: &str, holds: bool) {
     assert!(rt; holds, "{row}");

@@ -58,17 +58,6 @@ fn std_copy(value: &mut JsonValue) -> Result<()> {
     Ok(())
 }
 
-/// The reference isn't used.
-fn borrow_at(value: &mut JsonValue, alloc: Global) -> Result<()> {
-    value.at_mut(alloc, LONG_KEY)?;
-    Ok(())
-}
-
-fn borrow_at_index(value: &mut JsonValue, alloc: Global, index: usize) -> Result<()> {
-    value.at_index_mut(alloc, index)?;
-    Ok(())
-}
-
 impl Call for Changed {
     fn call(self, value: &mut JsonValue, alloc: Global) -> Result<()> {
         match self {
@@ -83,7 +72,7 @@ impl Call for Changed {
             Changed::PushOnNull => passed_over(value.push(alloc, LONG_TEXT)),
             Changed::Insert => value.insert(alloc, LONG_KEY, true),
             Changed::InsertOnArray => passed_over(value.insert(alloc, "a", LONG_TEXT)),
-            Changed::AtMut => borrow_at(value, alloc),
+            Changed::AtMut => borrow_at(value, alloc, LONG_KEY),
             Changed::AtIndexMut(index) => borrow_at_index(value, alloc, index),
             Changed::TakeString => take_string(value, alloc),
         }

@@ -126,16 +126,6 @@ fn rejected(alloc: Global, text: &str) -> Result<()> {
     }
 }
 
-fn borrow_at(value: &mut JsonValue, alloc: Global) -> Result<()> {
-    value.at_mut(alloc, "a")?;
-    Ok(())
-}
-
-fn borrow_at_index(value: &mut JsonValue, alloc: Global) -> Result<()> {
-    value.at_index_mut(alloc, 1)?;
-    Ok(())
-}
-
 fn cleared_array(value: &mut JsonValue, alloc: Global) -> Result<()> {
     value.push(alloc, text(alloc)?)?;
     value.clear();
@@ -180,8 +170,8 @@ impl Call for Owned {
             Owned::OverrideLast => override_last(value, alloc),
             Owned::Clear => cleared(value, alloc),
             Owned::Consume => consumed(alloc),
-            Owned::AtMut => borrow_at(value, alloc),
-            Owned::AtIndexMut => borrow_at_index(value, alloc),
+            Owned::AtMut => borrow_at(value, alloc, "a"),
+            Owned::AtIndexMut => borrow_at_index(value, alloc, 1),
             Owned::ClearArray => cleared_array(value, alloc),
             Owned::ClearString => cleared_string(value, alloc),
             Owned::Retain => retained(value, alloc),
