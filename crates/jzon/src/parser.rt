@@ -263,9 +263,10 @@ impl<'a> Parser<'a> {
         Ok(Next::Item)
     }
 
-    /// Makes the value of the innermost container, which ended, and reads the comma or the closing
-    /// bracket after it, and goes on as long as containers end. Returns the value of the outermost
-    /// one, if it ended.
+    /// Makes the value of the innermost container, which ended, adds it to the container around it,
+    /// and reads the comma or the closing bracket after it; goes on so as long as containers end.
+    /// Returns `None` after a comma: the next element or key follows. If the outermost container
+    /// ended, its value is returned.
     #[inline(always)]
     fn end_containers(&mut self) -> fault::Result<Option<JsonValue>>
         requires even { HasAllValues self.old.stacks.innermost.kind self.old.stacks.innermost }

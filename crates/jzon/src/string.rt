@@ -7,8 +7,8 @@
 //!
 //! The state `string role bs s` is in a string: `role` says whether it is a value or a key, `bs`
 //! are the bytes of its content so far, and `s` is `between` characters, `after_backslash`, `code`
-//! in the digits of an escape, or `second`, `second_backslash` or `second_code` in the second
-//! escape of a surrogate pair. `ReadsCharacter source start p result` says that from such a state
+//! in the digits of an escape, or `second` before the second escape of a surrogate pair. `escape`
+//! is the byte of the backslash. `ReadsCharacter source start p result` says that from such a state
 //! `p` at byte `start`, an `Ok` leads on to `between`, with one more character in `bs`.
 //! `EndsAtQuote source start end` says that the byte before `end` is a quote, and not before
 //! `start`; `is_plain` holds of a byte that needs no escape.

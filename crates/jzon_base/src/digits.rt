@@ -180,7 +180,7 @@ fn clamped_exponent(dropped: usize, kept_fraction: usize, positive: bool, writte
     sum.clamp(i32::from(i16::MIN), i32::from(i16::MAX)) as i16
 }
 
-/// The number that the digits spell, at most `MAX_WRITTEN`.
+/// The written exponent that the digits spell, at most `MAX_WRITTEN`.
 #[cold]
 #[inline(never)]
 fn capped_number(digits: &[u8]) -> u32

@@ -123,8 +123,9 @@ impl<V> Pairs<V> {
         Pairs::boxed(alloc, keys, values)
     }
 
-    /// The entries of keys, and of as many values. `known` is what is known of exactly these keys
-    /// (the clause `Knows`), so they are distinct. The error is a failed allocation.
+    /// The entries of keys, and of as many values. `known` is the filter or the index by which a
+    /// strict reading found these keys distinct: it is of exactly these keys (the clause `Knows`),
+    /// and an index isn't made again. The error is a failed allocation.
     pub fn from_known(
         alloc: Global,
         keys: Vec<Key>,

@@ -30,7 +30,7 @@ impl<'a> Iter<'a> {
         Iter { keys: keys.iter() }
     }
 
-    /// No key.
+    /// No key: for an object that has no box yet.
     pub fn empty() -> Iter<'a>
         ensures { result ≡ [] }
     {

@@ -230,8 +230,9 @@ pub trait Generator {
         store(self.write_string(string), slot)
     }
 
-    /// Adds the prefix as it is, the text escaped, and the closing quote, by `write` and `write_char`.
-    /// Runs of bytes that need no escape are written whole. An error is stored in the slot.
+    /// Adds the prefix as it is (it begins with the opening quote), the text escaped, and the closing
+    /// quote, by `write` and `write_char`. Runs of bytes that need no escape are written whole. An
+    /// error is stored in the slot.
     #[doc(hidden)]
     #[inline(never)]
     fn try_write_escaped(

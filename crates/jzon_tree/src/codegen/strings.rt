@@ -43,9 +43,10 @@ pub fn push_short(bytes: &mut Vec<u8>, string: &[u8]) -> bool
     false
 }
 
-/// Puts a short string at an offset if it needs no escape. Otherwise nothing is put, and the result
-/// is false. The clause `PutsPlain` says this, and that the byte after the string stays. Each arm
-/// puts the first and the last `N` bytes, which may overlap (`put_ends`).
+/// Puts a string of at most 32 bytes at an offset if it needs no escape. Otherwise nothing is put,
+/// and the result is false. The clause `PutsPlain` says this, and that the byte after the string
+/// stays, which is the closing quote of the caller. Each arm puts the first and the last `N` bytes,
+/// which may overlap (`put_ends`).
 #[inline(always)]
 fn put_if_plain(bytes: &mut [u8], offset: usize, string: &[u8]) -> bool
     requires few { length string.now ≤ BY_ENDS_MAX_LEN }

@@ -70,7 +70,7 @@ pub fn is_readable(value: &JsonValue, depth: u16) -> bool
     !found.has_nan && found.nest <= u128::from(depth)
 }
 
-/// Inspects all parts of the value.
+/// Whether a number in the value is NaN, and how deep the value is, by a walk over all its parts.
 #[cycle(inspect)]
 #[tactic(auto, using(crate::proofs::Values::Views::views))]
 pub(crate) fn inspect(value: &JsonValue) -> Inspection
