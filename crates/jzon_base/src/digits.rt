@@ -1,7 +1,15 @@
 //! The digits of a number in a text, and the number that they mean (RFC 8259, section 6;
-//! docs/RULES.md, "What digits mean" and "Digit limits"). In clauses, `digits_number ds` is the
-//! number that the digits `ds` spell, and `fold add_digit n ds` the number `n` with these digits
-//! after its own.
+//! docs/RULES.md, "What digits mean" and "Digit limits").
+//!
+//! Take the digits before the point and those after it as one list. Its longest prefix that spells
+//! a number below 2^64 is kept: it is the mantissa. The digits after this prefix are dropped.
+//!
+//! In clauses, `digits_number ds` is the number that the digits `ds` spell, and `fold add_digit n
+//! ds` the number `n` with these digits after its own. `kept ds` are the kept digits, `dropped` is
+//! how many digits before the point are dropped, and `kept_fraction` how many after it are kept.
+//! `AreFewEnough` says that these two are at most 32767 and 32768, and `IsFirstTooMany` that a
+//! `DigitFault` is the first digit beyond. `signed positive n` is `n` or `-n`, `clamp` the nearest
+//! `i16`, and `read_number` the number with the kept digits and the clamped exponent.
 
 ghost use Rattle.std.specs.Prelude.{◌≡◌, ℕ, pos, ◌+◌, ◌%◌, ◌<◌, ◌≤◌, ◌^◌, ◌-ℤ◌, ◌+ℤ◌, ◌++◌, length, take, min, IfErr, OkIff};
 ghost use Rattle.std.specs.Char.{is_ascii_digit};
@@ -25,8 +33,8 @@ const MAX_DROPPED: usize = 32767;
 /// The most digits after the point that may be kept.
 const MAX_KEPT_FRACTION: usize = 32768;
 
-/// Written exponents are capped at this: whatever the digits are, the sum in `clamped_exponent` is
-/// then clamped too.
+/// Written exponents are capped at this. What `clamped_exponent` adds is an `i16`, so the sum is
+/// beyond an `i16` and is clamped, as it would be with any larger exponent.
 const MAX_WRITTEN: u32 = 65536;
 
 /// The digit that exceeds a limit, by its position among the digits before or after the point.
@@ -59,12 +67,15 @@ pub fn read_scanned(
         (signed positive_exponent (digits_number exponent.now))) }
     ensures fault { IfErr result (IsFirstTooMany whole.now fraction.now) }
 {
-    // Most numbers have so few digits that none is dropped.
+    // Most numbers have so few digits that none is dropped. Then `number` is exact, although `scan`
+    // computes it modulo 2^64.
     if whole.len() + fraction.len() <= ALWAYS_KEPT {
         let exponent = clamped_exponent(0, fraction.len(), positive_exponent, exponent);
         return Ok(Number::from_parts_unchecked(positive, number, exponent));
     }
     let (number, dropped, kept_fraction) = kept_prefix(whole, fraction);
+    // The position of the first digit that is too many: before it are the kept digits, and as many
+    // dropped ones as are allowed.
     if dropped > MAX_DROPPED {
         return Err(DigitFault::Whole(whole.len() - dropped + MAX_DROPPED));
     }
@@ -76,8 +87,8 @@ pub fn read_scanned(
 }
 
 /// How many digits `bytes` begin with, and the number that they spell when appended to those of
-/// `before`, modulo 2^64. The clause `number` holds for each `n` of which `before` is the
-/// remainder.
+/// `before`, modulo 2^64. `before` is the number `n` of earlier digits, modulo 2^64 too, or 0 if
+/// there are none.
 #[inline]
 pub fn scan(bytes: &[u8], before: u64) -> (usize, u64)
     ensures count { result.0 ≡ prefix_len is_ascii_digit bytes.now }
@@ -134,7 +145,7 @@ fn kept_prefix(whole: &[u8], fraction: &[u8]) -> (u64, usize, usize)
 }
 
 /// Appends digits to `before` as long as the number stays below 2^64. Returns this number, and how
-/// many digits were appended.
+/// many digits were appended. Cold, because only numbers of more than 19 digits need it.
 #[cold]
 #[inline(never)]
 fn longest_prefix(before: u64, digits: &[u8]) -> (u64, usize)
@@ -159,7 +170,8 @@ fn longest_prefix(before: u64, digits: &[u8]) -> (u64, usize)
 }
 
 /// The exponent of the number: the written one, plus 1 for each dropped digit before the point,
-/// minus 1 for each kept digit after it. The sum is exact, and then clamped to an `i16`.
+/// minus 1 for each kept digit after it. The sum is exact, and then clamped to an `i16`. `positive`
+/// is the sign of the written exponent, and `written` are its digits: none if there is no exponent.
 fn clamped_exponent(dropped: usize, kept_fraction: usize, positive: bool, written: &[u8]) -> i16
     requires digits { All IsDigit written.now }
     requires dropped { dropped ≤ 32767 }
@@ -168,6 +180,7 @@ fn clamped_exponent(dropped: usize, kept_fraction: usize, positive: bool, writte
         (digits_number written.now)) }
 {
     let power = dropped as i32 - kept_fraction as i32;
+    // By the limits on both counts, `power` fits in an `i16`.
     if written.is_empty() {
         return power as i16;
     }
@@ -180,7 +193,8 @@ fn clamped_exponent(dropped: usize, kept_fraction: usize, positive: bool, writte
     sum.clamp(i32::from(i16::MIN), i32::from(i16::MAX)) as i16
 }
 
-/// The written exponent that the digits spell, at most `MAX_WRITTEN`.
+/// The written exponent that the digits spell, at most `MAX_WRITTEN`. Cold, because most numbers
+/// have no written exponent.
 #[cold]
 #[inline(never)]
 fn capped_number(digits: &[u8]) -> u32

@@ -1,4 +1,9 @@
 //! Why a call fails (docs/RULES.md, "Errors").
+//!
+//! In clauses, `IsWrongType word` holds of a `WrongType` with this word, and `error_text` is the
+//! text that an error is printed as. `line_in` and `column_in` are what `line` and `column` return.
+//! By the ghost member `output`, `Display` prints this text; by `from_gives`, `from` returns
+//! `OutOfMemory`.
 
 ghost use Rattle.std.specs.Prelude.{◌≡◌, Some, IfOk, IsOkUnless};
 ghost use Rattle.jzon_base.specs.declared.error.Error.TheVariants.{OutOfMemory};

@@ -1,5 +1,8 @@
 //! A key of an object: text that is stored inline if it is short (docs/RULES.md, "Short and long
 //! strings").
+//!
+//! In clauses, `key_bytes` are the bytes of a key, wherever they are stored. By the ghost member
+//! `eq`, `==` is the equality of bytes, `bytes_eq`; `laws` proves that it is an equivalence.
 ghost use Rattle.std.specs.Prelude.{◌≡◌, ◌<◌, ◌≤◌, ◌++◌, ◌∷◌, List, ℕ, [], length, take, string_bytes, IfOk, IsOkUnless, OnErr, OnOk};
 ghost use Rattle.std.specs.Str.{bytes_eq};
 ghost use Rattle.jzon_base.specs.Key.{key_bytes};
@@ -53,7 +56,8 @@ impl Key {
 
     /// Appends the key with this text, with which `wide` begins, to `keys`. It is made there, so
     /// that it isn't moved. A text of up to 32 bytes is copied with 32 bytes of `wide` at once, if
-    /// `wide` can be cut there, which is faster. The error is a failed allocation.
+    /// `wide` can be cut there, which is faster. The error is a failed allocation, and then no key
+    /// is appended.
     #[doc(hidden)]
     #[inline(always)]
     pub fn push_wide(

@@ -25,7 +25,7 @@ const POWERS_OF_TEN: [u64; 9] = [
     100_000_000,
 ];
 
-/// A power of ten.
+/// `10 ^ n`, from a table.
 #[inline(always)]
 pub(crate) fn ten_to(n: usize) -> u64
     requires { n ≤ 8 }
@@ -41,6 +41,7 @@ pub(crate) fn leading_digits(bytes: &[u8], start: usize) -> (usize, u64)
     ensures count { result.0 ≡ prefix_len is_ascii_digit (take 8 (drop start bytes.now)) }
     ensures number { result.1 ≡ digits_number (take result.0 (drop start bytes.now)) }
 {
+    // The difference wraps, so a byte that isn't a digit becomes a value above 9.
     let values = u8x8::from_slice(&bytes[start..]) - u8x8::splat(b'0');
     let others = values.simd_gt(u8x8::splat(9)).to_bitmask();
     let word = u64::from_le_bytes(values.to_array());
@@ -70,6 +71,8 @@ fn number_of_eight(word: u64) -> u64
     ensures { (ds : List ℕ) → length ds ≡ 8 → All (λ d. d < 10) ds → word ≡ number_l 256 ds
         → result ≡ values_number ds }
 {
+    // Each product adds to every part of the word 10, 100 or 10,000 times the part below it, which
+    // spells the digits before. The shift and the mask keep every other sum.
     let pairs = (word.wrapping_mul(10 * 0x100 + 1) >> 8) & 0x00ff_00ff_00ff_00ff;
     let fours = (pairs.wrapping_mul(100 * 0x1_0000 + 1) >> 16) & 0x0000_ffff_0000_ffff;
     fours.wrapping_mul(10_000 * 0x1_0000_0000 + 1) >> 32
