@@ -87,8 +87,8 @@ fn search(keys: &[Key], index: &Runs, name: &str) -> Result<usize, Spot>
         .map_err(|at| Spot { hash, at })
 }
 
-/// Makes the index of keys and a missing key that is put after them. The error is a failed
-/// allocation, and then nothing or the index of the keys is there.
+/// Makes the index of keys and a missing key, which the caller puts after them. The error is a
+/// failed allocation, and then the index is empty or that of the keys alone.
 #[inline(never)]
 fn begin_index(alloc: Global, keys: &[Key], index: &mut Runs, name: &str) -> Result<(), AllocError>
     requires distinct { IsDistinct bytes_eq keys.now }
@@ -104,8 +104,9 @@ fn begin_index(alloc: Global, keys: &[Key], index: &mut Runs, name: &str) -> Res
     }
 }
 
-/// Adds the entry of a missing key that is put after these keys to their index, if they have one or
-/// are no longer few. The error is a failed allocation.
+/// Adds the entry of a missing key, which the caller puts after these keys, to their index, if they
+/// have one or are at least 32. The error is a failed allocation, and then the index is empty or
+/// that of these keys.
 #[inline(always)]
 fn add_entry(
     alloc: Global,
@@ -152,6 +153,8 @@ fn put_each<V: Drop>(
     ensures merged { IfOk result (λ r. zip r.0 r.1.items ≡ put_each (zip keys.items values.items)) }
 {
     let mut index = Runs::new(alloc);
+    // The first `kept` keys and values are the result so far. The value of a repeated key is
+    // swapped with the earlier one, which is cut off at the end, as is the key.
     let mut kept = 0;
     for at in 0..keys.len() {
         let before = &keys[..kept];
@@ -250,7 +253,7 @@ impl Keys {
         self.keys.len()
     }
 
-    /// The position of a key.
+    /// The position of a key, or `None` if it is missing.
     pub fn position(&self, name: &str) -> Option<usize>
         ensures { result ≡ position (λ k. bytes_eq k name.now) self.now }
     {
@@ -307,7 +310,7 @@ impl Keys {
         self.index.cut(index);
     }
 
-    /// Removes all keys.
+    /// Removes all keys. Their room, and that of the index's first run, is kept.
     pub fn clear(&mut self)
         ensures { self.new ≡ [] }
     {

@@ -1,5 +1,5 @@
 //! Keys without an index are compared one by one. Up to 32 keys have none, unless it is left from
-//! when there were more.
+//! when there were more. In clauses, `bytes_eq` is the equality of keys.
 ghost use Rattle.std.specs.Prelude.{◌≡◌, ◌-◌, length, IsTrue, ◌↔◌, slice_index};
 ghost use Rattle.std.specs.List.{list_any, position, IsDistinct};
 ghost use Rattle.std.specs.Str.{bytes_eq};
@@ -42,7 +42,7 @@ fn are_equal(a: &str, b: &str) -> bool
     a.len() == b.len() && last_byte(a) == last_byte(b) && have_same_bytes(a, b)
 }
 
-/// The position of the key of this name.
+/// The position of the key of this name, or `None` if there is none.
 #[inline(always)]
 pub fn position(keys: &[Key], name: &str) -> Option<usize>
     ensures { result ≡ position (λ k. bytes_eq k name.now) keys.now }
@@ -57,7 +57,8 @@ pub fn has_name(keys: &[Key], name: &str) -> bool
     keys.iter().any(|key| are_equal(key.as_str(), name))
 }
 
-/// Whether no key repeats, by a filter.
+/// Whether no key repeats. A key is compared with those before it only if its bit is set in the
+/// filter that has theirs.
 #[inline(never)]
 fn are_distinct_by_filter(keys: &[Key]) -> bool
     ensures { IsTrue result ↔ IsDistinct bytes_eq keys.now }
@@ -71,7 +72,7 @@ fn are_distinct_by_filter(keys: &[Key]) -> bool
     true
 }
 
-/// Whether no key repeats.
+/// Whether no key repeats. Up to 8 keys are compared with each other, and more by a filter.
 #[inline(always)]
 pub fn are_distinct(keys: &[Key]) -> bool
     ensures { IsTrue result ↔ IsDistinct bytes_eq keys.now }

@@ -14,7 +14,9 @@ pub struct Filter {
     words: [u64; 4],
 }
 
-/// The number of a key's bit, which is computed from its length and three of its bytes.
+/// The number of a key's bit, which is computed from its length, its first byte and its last two
+/// (of a key of one byte, this byte each time). The factors are meant to spread keys over the bits;
+/// with others, only more or fewer keys would be compared.
 #[inline(always)]
 #[tactic(auto, unfolding(crate::specs::Private::Filter::bit_of))]
 fn bit_of(name: &str) -> usize
@@ -39,7 +41,7 @@ impl Filter {
         Filter { words: [0; 4] }
     }
 
-    /// Sets the bit of a name. Returns whether it was set before.
+    /// Sets the bit of a name. Returns whether it was set before, by this name or by another.
     #[inline(always)]
     fn set_bit(&mut self, name: &str) -> bool
         ensures known { HasBit self.old.words name.now → result ≡ true }
@@ -53,6 +55,7 @@ impl Filter {
     }
 
     /// Whether a key has this name. The bits of the keys must be set; that of the name is set now.
+    /// Keys are compared only if it was set before.
     #[inline(always)]
     pub fn has_or_adds(&mut self, keys: &[Key], name: &str) -> bool
         requires { HaveBits keys.now self.old.words }

@@ -35,7 +35,8 @@ pub enum KnownKeys {
 }
 
 /// Whether there is a key of this name. If not, its index entry is added, and the caller puts the
-/// key after these. The error is a failed allocation.
+/// key after these. The error is a failed allocation, and then the index is empty or that of these
+/// keys.
 fn has_or_indexes(
     alloc: Global,
     keys: &[Key],
@@ -68,7 +69,8 @@ impl KnownKeys {
     }
 
     /// Whether there is a key of this name. If not, the name is known from now on, and the caller
-    /// puts its key after these. The error is a failed allocation.
+    /// puts its key after these. The error is a failed allocation, and then exactly these keys are
+    /// known, as before.
     pub fn has_or_adds(
         &mut self,
         alloc: Global,
@@ -107,7 +109,8 @@ impl KnownKeys {
         }
     }
 
-    /// The index of these keys, which is empty if they are few. The error is a failed allocation.
+    /// The index of these keys, which is empty if they have only the filter of few keys. The error
+    /// is a failed allocation.
     pub(super) fn into_index(self, alloc: Global, keys: &[Key]) -> Result<Runs, AllocError>
         requires { Knows keys.now self }
         ensures { IfOk result (IsTable keys.now) }

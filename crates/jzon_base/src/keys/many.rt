@@ -1,6 +1,6 @@
-//! What is known of more than 32 keys that are in a vector of the caller: their index entries in the
-//! order of the keys, and a filter of their hashes that grows. A usual key that is new takes its
-//! hash and a test of bits; the entries are sorted once, when the keys get their index.
+//! What is known of more than 32 keys that are in a vector of the caller: their index entries in
+//! the order of the keys, and a filter of their hashes that grows. A usual key that is new takes
+//! its hash and a test of bits; the entries are sorted once, when the keys get their index.
 //!
 //! In clauses, `HasHash words hash` says that the bits of a hash are set. `KnowsMany keys words
 //! entries` says that the keys are distinct, that the entries are theirs, and that the bits of all
@@ -50,12 +50,14 @@ pub struct ManyKeys {
 fn mask_of(hash: u64) -> u64
     ensures { result ≡ mask_of hash }
 {
+    // The numbers of the four bits are in the uppermost 24 bits of `mixed`, six bits for each.
     let mixed = hash.wrapping_mul(MIXER);
     let first = 1 << (mixed >> 58) % 64 | 1 << (mixed >> 52) % 64;
     first | 1 << (mixed >> 46) % 64 | 1 << (mixed >> 40) % 64
 }
 
-/// Sets the bits of a key of this hash. Returns whether all were set before.
+/// Sets the bits of a key of this hash. Returns whether all were set before: they are if a key of
+/// this hash is known, but other keys may have set them too.
 #[inline(always)]
 fn set_bits(words: &mut Vec<u64>, hash: u64) -> bool
     requires { 0 < length words.old.items }
@@ -109,7 +111,7 @@ impl ManyKeys {
 
     /// Whether there is a key of this name, which has this hash. It is called if the filter says
     /// that there may be one: it compares the hashes of all keys, and the keys themselves if one is
-    /// equal.
+    /// equal. Each call is counted in `scans_left`.
     #[cold]
     #[inline(never)]
     fn scan(&mut self, keys: &[Key], name: &str, hash: u64) -> bool
@@ -123,8 +125,8 @@ impl ManyKeys {
         has_hash(self.entries.as_slice(), hash) && few::position(keys, name).is_some()
     }
 
-    /// Gives the filter more words if it has no more than there are keys. The error is a failed
-    /// allocation.
+    /// Gives the filter more words if it has no more than there are keys; then the count of scans
+    /// begins anew. The error is a failed allocation, and then nothing has changed.
     #[inline(always)]
     fn reserve_word(&mut self, alloc: Global, keys: &[Key]) -> Result<(), AllocError>
         requires { KnowsMany keys.now self.old.words.items self.old.entries.items }
@@ -138,7 +140,8 @@ impl ManyKeys {
         Ok(())
     }
 
-    /// Sets the bits of a name, which has this hash. Returns whether there is a key of this name.
+    /// Sets the bits of a name, which has this hash. Returns whether there is a key of this name:
+    /// the keys are asked only if all of these bits were set before.
     #[inline(always)]
     fn has_or_sets(&mut self, keys: &[Key], name: &str, hash: u64) -> bool
         requires knows { KnowsMany keys.now self.old.words.items self.old.entries.items }
@@ -150,8 +153,9 @@ impl ManyKeys {
         set_bits(&mut self.words, hash) && self.scan(keys, name, hash)
     }
 
-    /// Whether there is a key of this name. If not, the name is known from now on. The error is a
-    /// failed allocation.
+    /// Whether there is a key of this name. If not, the name is known from now on, and the caller
+    /// puts its key after these. The error is a failed allocation, and then exactly these keys are
+    /// known, as before.
     #[inline(always)]
     pub fn has_or_adds(
         &mut self,
@@ -177,7 +181,8 @@ impl ManyKeys {
         Ok(false)
     }
 
-    /// The index of the keys. The error is a failed allocation.
+    /// The index of the keys: their entries, sorted. `sort_rising` returns `true` here, because the
+    /// keys are distinct. The error is a failed allocation.
     pub fn into_index(self, alloc: Global, keys: &[Key]) -> Result<Runs, AllocError>
         requires { KnowsMany keys.now self.words.items self.entries.items }
         ensures { IfOk result (IsTable keys.now) }

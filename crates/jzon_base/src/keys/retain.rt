@@ -3,7 +3,8 @@
 //! Clauses on a closure: `CallableOnEachPair .. keep entries` says that `keep` accepts each entry,
 //! after calls for those before it; `RetainsPairs .. keep before after`, that `keep` was called for
 //! each entry of `before` in turn, and that `after` has those for which it returned `true`, with
-//! the values that it left there.
+//! the values that it left there. `TakesPair .. keep key value` says that `keep` accepts an entry,
+//! and `CalledAtPair ..` what one call returns, and what the value and `keep` are after it.
 ghost use Rattle.std.specs.Prelude.{◌≡◌, length};
 ghost use Rattle.std.specs.List.{zip};
 ghost use Rattle.std.specs.Map.Calls.{CalledAtPair, CallableOnEachPair, RetainsPairs, TakesPair};
@@ -12,8 +13,7 @@ use super::Keys;
 use crate::key::Key;
 
 /// Whether `keep` keeps this entry. It may change the value. A function of its own, so that the
-/// proof of the loop speaks of keys and values, and not of references to them. `TakesPair` says
-/// that `keep` accepts the entry, and `CalledAtPair` what one call returns and changes.
+/// proof of the loop speaks of keys and values, and not of references to them.
 #[inline(always)]
 fn keeps<V: Drop, F: FnMut(&str, &mut V) -> bool>(keep: &mut F, key: &str, value: &mut V) -> bool
     requires { TakesPair F.FnMut keep.old key.now value.old }
@@ -35,6 +35,7 @@ fn retain_entries<V: Drop, F: FnMut(&str, &mut V) -> bool>(
     ensures kept { RetainsPairs (CalledAtPair F.FnMut) keep (zip keys.old.items values.old.items)
         (zip keys.new.items values.new.items) }
 {
+    // The first `kept` entries are those kept so far; the others come after them, in any order.
     let mut kept = 0;
     for at in 0..keys.len() {
         if keeps(&mut keep, keys[at].as_str(), &mut values[at]) {
@@ -48,8 +49,8 @@ fn retain_entries<V: Drop, F: FnMut(&str, &mut V) -> bool>(
 }
 
 impl Keys {
-    /// Keeps the keys and the values for which `keep` returns `true`, in their order. Takes no
-    /// memory.
+    /// Keeps the keys and the values for which `keep` returns `true`, in their order. If a key is
+    /// removed, the index is made again, in its old room. Takes no memory.
     pub fn retain<V: Drop, F: FnMut(&str, &mut V) -> bool>(&mut self, values: &mut Vec<V>, keep: F)
         requires even { length values.old.items ≡ length self.old }
         requires callable { CallableOnEachPair (CalledAtPair F.FnMut) (TakesPair F.FnMut) keep

@@ -14,7 +14,7 @@ use crate::key::Key;
 use crate::keys::entries;
 use crate::keys::hash::hash_of;
 
-/// Replaces entries by those of as many keys from a position on.
+/// Replaces entries by those of as many keys from a position on, in the order of the keys.
 fn put_hashed(entries: &mut [(u64, usize)], keys: &[Key], from: usize)
     requires { from + length entries.old ≤ length keys.now }
     ensures { entries.new ≡ hashed_from from (take (length entries.old) (drop from keys.now)) }
@@ -44,7 +44,8 @@ impl Run {
 }
 
 impl Runs {
-    /// Replaces the entries by those of at most as many keys. Takes no memory.
+    /// Replaces the entries by those of at most as many keys. Runs for which no key is left become
+    /// empty. Takes no memory.
     pub fn refill(&mut self, keys: &[Key])
         requires { length keys.now ≤ length (entries_of self.old) }
         ensures { IsIndexOf (map hash_of keys.now) keys.now self.new }
