@@ -1,4 +1,11 @@
 //! Numbers: exact decimals, and NaN (docs/RULES.md, "Numbers").
+//!
+//! In clauses a number is `nan`, or `parts` of three things: whether the sign is positive, the
+//! mantissa, and the exponent. `parts_of` are these three, and `(false, 0, 0)` for NaN; `same` is
+//! the equality of numbers, `negated n` is `-n`, and `decimal_text` is the text that `Display`
+//! prints. `StripsTo positive m e n` says that `n` has this sign, and `m` and `e` with trailing
+//! zeros of `m` stripped while `e` is negative. The ghost members `neg_gives`, `eq` and `output` say
+//! what `-`, `==` and `Display` do; `laws` proves that `==` is an equivalence.
 
 ghost use Rattle.std.specs.Prelude.{◌≡◌, ◌*◌, ◌^◌, ◌<◌, ◌≤◌, ◌==◌, ◌||◌, MatchOption, Some};
 ghost use Rattle.std.specs.Cmp.{partial_equiv_from_equiv};
@@ -171,6 +178,7 @@ impl PartialEq for Number {
     fn eq(&self, other: &Number) -> bool {
         let (positive, mantissa, exponent) = self.as_parts();
         let (other_positive, other_mantissa, other_exponent) = other.as_parts();
+        // Equal parts are the usual case. NaN has the mantissa 0, so neither number is NaN here.
         if mantissa != 0 && mantissa == other_mantissa && exponent == other_exponent {
             return positive == other_positive;
         }
@@ -215,8 +223,8 @@ impl fmt::Display for Number {
 }
 
 /// Whether two numbers of one sign, neither 0, with these mantissas and exponents are equal: that
-/// of the higher exponent is scaled down to the lower one. In clauses, `scaled m e` is an integer for
-/// each exponent: `m * 10 ^ (e + 32768)`.
+/// of the higher exponent is scaled down to the lower one. In clauses, `scaled m e` is an integer
+/// for each exponent: `m * 10 ^ (e + 32768)`.
 #[tactic(auto, using(crate::proofs::Numbers::Scaling::same_rules))]
 fn same_magnitude(mantissa: u64, exponent: i16, other_mantissa: u64, other_exponent: i16) -> bool
     requires left { 0 < mantissa }
@@ -231,7 +239,7 @@ fn same_magnitude(mantissa: u64, exponent: i16, other_mantissa: u64, other_expon
     }
 }
 
-/// `mantissa * 10 ^ power`, if it fits.
+/// `mantissa * 10 ^ power`, or `None` if that is 2^64 or more.
 #[tactic(auto, using(crate::proofs::Numbers::Powers::too_large))]
 fn times_power(mantissa: u64, power: u32) -> Option<u64>
     requires { 0 < mantissa }

@@ -1,9 +1,13 @@
 //! Numbers as fixed-point integers (docs/RULES.md, "Fixed-point readings"): `mantissa * 10 ^
 //! (exponent + point)`, so that `point` is the number of decimal places that are kept.
 //!
-//! In clauses, `SomeWhere o P r` says that `r` is `Some` of the integer in `o`, if there is one and
-//! `P` holds of it, and else `None`. `integer_at n point` is the number `n * 10 ^ -point`, which
-//! has an exponent of 16 bits if `point` is at most 32768.
+//! In clauses, `fixed_point` and `unsigned_fixed_point` are these integers, however large; there is
+//! none for NaN, nor an unsigned one for a negative sign. Those that begin with `exact_` are there
+//! only if no digit but zeros is lost: if `is_whole_at` is true. `SomeWhere o P r` says that `r` is
+//! `Some` of the integer in `o`, if there is one and `P` holds of it, and else `None`. `FitsSigned
+//! w64` says that an integer fits in an `i64`. `integer_at n point` is the number `n * 10 ^ -point`,
+//! which has an exponent of 16 bits if `point` is at most 32768. `IsExactAt d point` says that, at
+//! such a point, this number equals `d`, if `n` is the integer of `d`.
 
 ghost use Rattle.std.specs.Prelude.{◌≡◌, pos, ◌/◌, ◌%◌, ◌==◌, ◌+ℤ◌, ◌<◌, ◌≤◌, ◌^◌, FitsSigned, IfSome, IsTrue, true};
 ghost use Rattle.std.specs.Int.{w64};
@@ -93,11 +97,12 @@ fn is_whole(mantissa: u64, exponent: i16, point: u16) -> bool
     }
     match 10u64.checked_pow(power.unsigned_abs()) {
         Some(divisor) => mantissa % divisor == 0,
+        // The divisor is larger than any mantissa.
         None => mantissa == 0,
     }
 }
 
-/// `mantissa * 10 ^ (exponent + point)`, truncated to an integer, if it fits.
+/// `mantissa * 10 ^ (exponent + point)`, truncated to an integer; `None` if that is 2^64 or more.
 #[tactic(auto, using(crate::proofs::Numbers::Scaling::over_rules))]
 fn whole_part(mantissa: u64, exponent: i16, point: u16) -> Option<u64>
     ensures { let n = whole_part mantissa (exponent +ℤ pos point) in SomeIff result (n < 2 ^ 64) n }
@@ -111,6 +116,7 @@ fn whole_part(mantissa: u64, exponent: i16, point: u16) -> Option<u64>
     }
     match 10u64.checked_pow(power.unsigned_abs()) {
         Some(divisor) => Some(mantissa / divisor),
+        // The divisor is larger than any mantissa.
         None => Some(0),
     }
 }

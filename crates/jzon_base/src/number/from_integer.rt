@@ -1,5 +1,7 @@
 //! Integers as numbers (docs/RULES.md, "Calls on numbers"). The mantissa is the magnitude, and the
-//! exponent 0.
+//! exponent 0. In clauses, `integer_parts n` is this number (`pos n` is an unsigned `n` as an
+//! integer), and `same` the equality of numbers. The ghost member `from_gives` says what `from`
+//! returns.
 
 ghost use Rattle.std.specs.Prelude.{◌≡◌, pos, true};
 ghost use Rattle.jzon_base.specs.Decimal.{integer_parts, same};

@@ -1,8 +1,11 @@
-//! Numbers as integers (docs/RULES.md, "Integer readings"). Only a number of exponent 0 is one:
-//! `1.0`, `5e2` and `100e-2` aren't. For these there is `as_exact_fixed_point_u64(0)`.
+//! Numbers as integers (docs/RULES.md, "Integer readings"). Only a number of exponent 0 is one, its
+//! mantissa with its sign: `1.0`, `5e2` and `100e-2` aren't. For these there is
+//! `as_exact_fixed_point_u64(0)`.
 //!
-//! In clauses, `OkWhere o P r` says that `r` is `Ok` of the integer in `o`, if there is one and `P`
-//! holds of it, and else an `Err`.
+//! In clauses, `integer_of` is this integer, if the number is one, and `unsigned_of` is it if the
+//! sign is positive too. `OkWhere o P r` says that `r` is `Ok` of the integer in `o`, if there is
+//! one and `P` holds of it, and else an `Err`. `FitsSigned w8` says that an integer fits in an `i8`,
+//! and so on. The ghost member `try_from_gives` says what `try_from` returns.
 
 ghost use Rattle.std.specs.Prelude.{◌<◌, ◌^◌, FitsSigned};
 ghost use Rattle.std.specs.Int.{w8, w16, w32, w64};
@@ -17,7 +20,7 @@ use super::Number;
 pub struct NumberOutOfScope;
 
 impl Number {
-    /// The mantissa, if the sign is positive and the exponent is 0.
+    /// The mantissa, if the sign is positive and the exponent is 0. (NaN's sign isn't positive.)
     fn unsigned(self) -> Result<u64, NumberOutOfScope>
         ensures { OkWhere (unsigned_of self) (λ n. n < 2 ^ 64) result }
     {
@@ -27,7 +30,8 @@ impl Number {
         }
     }
 
-    /// The mantissa with its sign, if the exponent is 0.
+    /// The mantissa with its sign, if the exponent is 0 and the integer fits. NaN is tested first,
+    /// because `as_parts` returns the exponent 0 for it.
     fn signed(self) -> Result<i64, NumberOutOfScope>
         ensures { OkWhere (integer_of self) (FitsSigned w64) result }
     {
@@ -41,13 +45,14 @@ impl Number {
     }
 }
 
-/// The magnitude with a sign, if it fits.
+/// The magnitude with a sign, or `None` if that doesn't fit.
 pub(super) fn with_sign(positive: bool, magnitude: u64) -> Option<i64>
     ensures { let z = signed positive magnitude in SomeIff result (FitsSigned w64 z) z }
 {
     if positive {
         i64::try_from(magnitude).ok()
     } else {
+        // Not `-magnitude`: the magnitude of `i64::MIN` doesn't fit in an `i64`.
         0i64.checked_sub_unsigned(magnitude)
     }
 }
