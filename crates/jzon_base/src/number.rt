@@ -4,8 +4,8 @@
 //! mantissa, and the exponent. `parts_of` are these three, and `(false, 0, 0)` for NaN; `same` is
 //! the equality of numbers, `negated n` is `-n`, and `decimal_text` is the text that `Display`
 //! prints. `StripsTo positive m e n` says that `n` has this sign, and `m` and `e` with trailing
-//! zeros of `m` stripped while `e` is negative. The ghost members `neg_gives`, `eq` and `output` say
-//! what `-`, `==` and `Display` do; `laws` proves that `==` is an equivalence.
+//! zeros of `m` stripped while `e` is negative. The ghost members `neg_gives`, `eq` and `output`
+//! say what `-`, `==` and `Display` do; `laws` proves that `==` is an equivalence.
 
 ghost use Rattle.std.specs.Prelude.{◌≡◌, ◌*◌, ◌^◌, ◌<◌, ◌≤◌, ◌==◌, ◌||◌, MatchOption, Some};
 ghost use Rattle.std.specs.Cmp.{partial_equiv_from_equiv};
@@ -178,7 +178,7 @@ impl PartialEq for Number {
     fn eq(&self, other: &Number) -> bool {
         let (positive, mantissa, exponent) = self.as_parts();
         let (other_positive, other_mantissa, other_exponent) = other.as_parts();
-        // Equal parts are the usual case. NaN has the mantissa 0, so neither number is NaN here.
+        // Equal parts need no arithmetic. NaN has the mantissa 0, so neither number is NaN here.
         if mantissa != 0 && mantissa == other_mantissa && exponent == other_exponent {
             return positive == other_positive;
         }

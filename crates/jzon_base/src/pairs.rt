@@ -1,9 +1,20 @@
 //! Values under distinct keys, in a box (docs/RULES.md, "Objects").
 //!
+//! In clauses, `find k entries` is the value of the key `k`, if it is there. `put k v entries` are
+//! the entries with the value `v` at `k`, last if `k` was missing; `with_default k v` changes
+//! nothing if `k` is there. `put_each` puts entries one after the other, `cut k` removes the entry
+//! of `k`, and `set_value entries i v` replaces the value at position `i`, if there is one.
+//! `keys_of` and `values_of` are the keys and the values alone.
+//!
 //! A clause `writes_back` says what the receiver is once a returned `&mut` is no longer used.
-//! `Lends .. result f` says that it is `f w`, for the last value `w` to which the reference
-//! referred; `LendsIf .. result f x` and `LendsIfOk .. result f x` say so of `Some` and of `Ok`,
-//! and that the receiver is `x` at `None` or `Err`.
+//! `Lends R S self.entry result f` says that it is `f w`, for the last value `w` to which the
+//! reference referred; `R` and `S` name the types of the receiver and of `w`. `LendsIf .. result f
+//! x` and `LendsIfOk .. result f x` say so of `Some` and of `Ok`, and that the receiver is `x` at
+//! `None` or `Err`.
+//!
+//! `CallableOnEachPair .. keep entries` says that `keep` accepts each entry in turn;
+//! `RetainsPairs .. keep before after`, that `after` are the entries for which it returned `true`,
+//! with the values that it left there.
 ghost use Rattle.std.specs.Prelude.{◌≡◌, ◌<◌, ◌-◌, ◌∷◌, ◌==◌, List, ℕ, [], length, remove, slice_get, Some, None, OnOk, OnErr, IfOk, MatchOption};
 ghost use Rattle.std.specs.List.{position, zip, IsDistinct};
 ghost use Rattle.std.specs.Map.Calls.{CalledAtPair, CallableOnEachPair, RetainsPairs, TakesPair};
@@ -30,8 +41,8 @@ use std::marker::Model;
 /// Values under distinct keys, in the order in which the keys were put. A clause sees the list of
 /// entries.
 ///
-/// The entries are in a box, so that what holds `Pairs` is small. There is no box before an entry is
-/// put or room is asked for.
+/// The entries are in a box, so that what holds `Pairs` is small. There is no box before an entry
+/// is put or room is asked for.
 #[derive(Drop)]
 pub struct Pairs<V> {
     alloc: Global,
@@ -60,7 +71,8 @@ impl<V> Pairs<V> {
         Pairs { alloc, entries }
     }
 
-    /// `Pairs` of keys and as many values, which are put in a box. The error is a failed allocation.
+    /// `Pairs` of keys and as many values, which are put in a box. The error is a failed
+    /// allocation.
     #[inline(always)]
     fn boxed(alloc: Global, keys: Keys, values: Vec<V>) -> Result<Pairs<V>, AllocError>
     where
@@ -90,7 +102,8 @@ impl<V> Pairs<V> {
     /// The entries of keys and as many values, put one after the other: those of equal keys become
     /// one, with the last value at the position of the first. The error is a failed allocation.
     ///
-    /// Inlined for few keys of which none repeats, because each small object of a text is made here.
+    /// Inlined for few keys of which none repeats, because each small object of a text is made
+    /// here.
     #[inline(always)]
     pub fn from_entries(
         alloc: Global,
@@ -111,7 +124,8 @@ impl<V> Pairs<V> {
         Pairs::merged(alloc, keys, values)
     }
 
-    /// The entries of many keys, or of keys of which some repeat.
+    /// The entries of more than 32 keys, or of keys of which some repeat. The error is a failed
+    /// allocation.
     #[inline(never)]
     fn merged(alloc: Global, keys: Vec<Key>, values: Vec<V>) -> Result<Pairs<V>, AllocError>
     where
@@ -215,7 +229,7 @@ impl<V> Pairs<V> {
         &[]
     }
 
-    /// The position of a key.
+    /// The position of a key, or `None` if it is missing.
     pub fn position(&self, name: &str) -> Option<usize>
         ensures { result ≡ position (λ k. bytes_eq k name.now) (keys_of self.now) }
     {
@@ -236,7 +250,7 @@ impl<V> Pairs<V> {
         }
     }
 
-    /// The entries in their box, to be written.
+    /// The entries in their box, to be written; `None` if there is no box, and so no entry.
     fn entries_mut(&mut self) -> Option<&mut Contents<V>>
         ensures* writes_back { sem 𝓛 (LendsIf (the_row V.row) (entries_row V.row) self.entry result
             (λ es. es) []) }
@@ -262,7 +276,7 @@ impl<V> Pairs<V> {
         }
     }
 
-    /// The value of a key.
+    /// The value of a key, or `None` if it is missing.
     #[tactic(auto, using(crate::proofs::Entries::PairPositions::places))]
     pub fn get(&self, name: &str) -> Option<&V>
         ensures { option_copied result ≡ find name.now self.now }
@@ -270,7 +284,7 @@ impl<V> Pairs<V> {
         Some(self.get_at(self.position(name)?).1)
     }
 
-    /// The value of a key, to be written: nothing else changes.
+    /// The value of a key, to be written: nothing else changes. `None` if the key is missing.
     #[tactic(auto, using(crate::proofs::Entries::PairPositions::places))]
     pub fn get_mut(&mut self, name: &str) -> Option<&mut V>
         ensures* writes_back { sem 𝓛 (LendsIf (the_row V.row) V.row self.entry result
@@ -282,8 +296,9 @@ impl<V> Pairs<V> {
         Some(self.value_mut(index))
     }
 
-    /// Puts the first entry, into a new box: there is none yet. The box is allocated before the room
-    /// for keys and values. The error is a failed allocation.
+    /// Puts the first entry, into a new box: there is none yet. The box is allocated before the
+    /// room for keys and values. The error is a failed allocation, and then there is still no
+    /// entry.
     #[inline(never)]
     fn insert_first(&mut self, alloc: Global, name: &str, value: V) -> Result<(), AllocError>
     where
@@ -301,7 +316,7 @@ impl<V> Pairs<V> {
     }
 
     /// Puts a value under a key. If the key is there, its value is replaced, which takes no memory;
-    /// else the entry is put last. The error is a failed allocation.
+    /// else the entry is put last. The error is a failed allocation, and then nothing has changed.
     pub fn insert(&mut self, alloc: Global, name: &str, value: V) -> Result<(), AllocError>
     where
         V: Drop,
@@ -315,8 +330,9 @@ impl<V> Pairs<V> {
         self.insert_first(alloc, name, value)
     }
 
-    /// The position of a key. If the key is missing, it is put last with `value`. The error is a
-    /// failed allocation.
+    /// The position of a key. If the key is missing, it is put last with `value`; if it is there,
+    /// `value` is dropped, and no memory is taken. The error is a failed allocation, and then
+    /// nothing has changed.
     pub fn place(&mut self, alloc: Global, name: &str, value: V) -> Result<usize, AllocError>
     where
         V: Drop,
@@ -333,8 +349,9 @@ impl<V> Pairs<V> {
         Ok(0)
     }
 
-    /// The value of a key, to be written. If the key is missing, it is put last with `value`. The
-    /// error is a failed allocation.
+    /// The value of a key, to be written. If the key is missing, it is put last with `value`; if it
+    /// is there, `value` is dropped, and no memory is taken. The error is a failed allocation, and
+    /// then nothing has changed.
     #[tactic(auto, using(crate::proofs::Entries::PairPositions::places))]
     pub fn at_mut(&mut self, alloc: Global, name: &str, value: V) -> Result<&mut V, AllocError>
     where
@@ -362,7 +379,8 @@ impl<V> Pairs<V> {
         }
     }
 
-    /// Removes the entry at a position. The others keep their order. Takes no memory.
+    /// Removes the entry at a position, and returns its value. The others keep their order. Takes
+    /// no memory.
     fn remove_at(&mut self, index: usize) -> V
         requires { index < length self.old }
         ensures value { slice_get (values_of self.old) index ≡ Some result }
@@ -374,8 +392,8 @@ impl<V> Pairs<V> {
         }
     }
 
-    /// Removes the entry of a key, and returns its value. The others keep their order. Takes no
-    /// memory.
+    /// Removes the entry of a key, and returns its value, or `None` if the key is missing. The
+    /// other entries keep their order. Takes no memory.
     #[tactic(auto, using(crate::proofs::Entries::PairPositions::places))]
     pub fn remove(&mut self, name: &str) -> Option<V>
         ensures value { result ≡ find name.now self.old }
@@ -399,7 +417,7 @@ impl<V> Pairs<V> {
         }
     }
 
-    /// Removes all entries.
+    /// Removes all entries. The box and its room are kept.
     pub fn clear(&mut self)
     where
         V: Drop,

@@ -1,4 +1,6 @@
-//! Short strings, stored inline (docs/RULES.md, "Short and long strings").
+//! Short strings, stored inline (docs/RULES.md, "Short and long strings"). In clauses a `Short` is
+//! its bytes, and `bytes_eq` is the equality of bytes: by the ghost member `eq`, `==` is this.
+//! `laws` proves that it is an equivalence, and `output` is the text that `Display` prints.
 
 ghost use Rattle.std.specs.Prelude.{◌≡◌, ◌≤◌, List, ℕ, length, take, IfOk, IsOkUnless, IsUtf8, Some, string_bytes};
 ghost use Rattle.std.specs.Cmp.{partial_equiv_from_equiv};
@@ -39,8 +41,8 @@ impl Short {
         Short { text }
     }
 
-    /// A copy of the string, with which `wide` begins. If `wide` has 30 bytes or more, 30 of them
-    /// are copied at once, which is faster than `from_slice`.
+    /// A copy of the string, with which `wide` begins. If `wide` can be cut after 30 bytes, these
+    /// are copied at once, which is faster than `from_slice`, and the copy is cut to the string.
     #[doc(hidden)]
     #[inline(always)]
     pub fn from_wide(slice: &str, wide: &str) -> Short

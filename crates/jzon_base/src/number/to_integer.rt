@@ -4,8 +4,8 @@
 //!
 //! In clauses, `integer_of` is this integer, if the number is one, and `unsigned_of` is it if the
 //! sign is positive too. `OkWhere o P r` says that `r` is `Ok` of the integer in `o`, if there is
-//! one and `P` holds of it, and else an `Err`. `FitsSigned w8` says that an integer fits in an `i8`,
-//! and so on. The ghost member `try_from_gives` says what `try_from` returns.
+//! one and `P` holds of it, and else an `Err`. `FitsSigned w8` says that an integer fits in an
+//! `i8`, and so on. The ghost member `try_from_gives` says what `try_from` returns.
 
 ghost use Rattle.std.specs.Prelude.{◌<◌, ◌^◌, FitsSigned};
 ghost use Rattle.std.specs.Int.{w8, w16, w32, w64};

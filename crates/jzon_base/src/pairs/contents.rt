@@ -1,8 +1,13 @@
 //! The keys and the values of `Pairs`, which are in its box.
 //!
+//! In clauses, `find k entries` is the value of the key `k`, if it is there. `put k v entries` are
+//! the entries with the value `v` at `k`, last if `k` was missing; `with_default k v` changes
+//! nothing if `k` is there. `set_value entries i v` replaces the value at position `i`. `keys_of`
+//! and `values_of` are the keys and the values alone.
+//!
 //! A clause `writes_back` says what the receiver is once a returned `&mut` is no longer used.
-//! `Lends .. result f` says that it is `f w`, for the last value `w` to which the reference
-//! referred.
+//! `Lends R S self.entry result f` says that it is `f w`, for the last value `w` to which the
+//! reference referred; `R` and `S` name the types of the receiver and of `w`.
 ghost use Rattle.std.specs.Prelude.{◌≡◌, ◌<◌, List, ℕ, length, remove, slice_get, Some, None, OnOk, OnErr, IfOk};
 ghost use Rattle.std.specs.List.{position, zip};
 ghost use Rattle.std.specs.Str.{bytes_eq};
@@ -52,7 +57,7 @@ impl<V> Contents<V> {
     }
 
     /// Puts a value under a key. If the key is there, its value is replaced, which takes no memory;
-    /// else the entry is put last. The error is a failed allocation.
+    /// else the entry is put last. The error is a failed allocation, and then nothing has changed.
     #[inline(always)]
     #[tactic(auto, using(crate::proofs::Entries::PairPositions::places))]
     pub fn insert(&mut self, alloc: Global, name: &str, value: V) -> Result<(), AllocError>
@@ -71,8 +76,9 @@ impl<V> Contents<V> {
         Ok(())
     }
 
-    /// The position of a key. If the key is missing, it is put last with `value`. The error is a
-    /// failed allocation.
+    /// The position of a key. If the key is missing, it is put last with `value`; if it is there,
+    /// `value` is dropped, and no memory is taken. The error is a failed allocation, and then
+    /// nothing has changed.
     #[tactic(auto, using(crate::proofs::Entries::PairPositions::places))]
     pub fn place(&mut self, alloc: Global, name: &str, value: V) -> Result<usize, AllocError>
     where
@@ -95,7 +101,8 @@ impl<V> Contents<V> {
         }
     }
 
-    /// Removes the entry at a position. The others keep their order. Takes no memory.
+    /// Removes the entry at a position, and returns its value. The others keep their order. Takes
+    /// no memory.
     pub fn remove_at(&mut self, index: usize) -> V
         requires { index < length self.old }
         ensures value { slice_get (values_of self.old) index ≡ Some result }

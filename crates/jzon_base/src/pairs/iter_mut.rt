@@ -1,5 +1,10 @@
 //! An iterator over entries whose values may be written. The ghost member `next_gives` says that
-//! `next` yields the first of those that are left, and `remaining` how many are left at most.
+//! `next` yields the first of those that are left, `next_back_gives` that `next_back` yields the
+//! last, and `remaining` how many are left at most. `iter_mut_rest` are those that are left, and
+//! `λ x. (x.0.now, x.1.now)` is the entry to which a yielded pair of references refers. At
+//! `size_hint`, `lower` and `upper` are the clauses of std's trait, and `exact` says more: both
+//! bounds are the number of entries that are left. No clause says what is written through a value
+//! (docs/TOOLCHAIN.md, "Clauses for iterators, and for allocations that succeed").
 ghost use Rattle.std.specs.Prelude.{◌≡◌, [], length, IfSome, Some};
 ghost use Rattle.std.specs.Iterator.{YieldsFirstBy, YieldsLastBy, item_count, at_most, UpTo};
 ghost use Rattle.std.specs.Iterator.SizeHint.{IsWithinCount};

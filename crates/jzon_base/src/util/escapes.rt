@@ -1,5 +1,9 @@
 //! Escapes in strings (RFC 8259, section 7): the letters of simple escapes and hexadecimal digits,
 //! as they are read and as they are printed. What is printed is read back: the clauses `read_back`.
+//!
+//! In clauses, `is_simple` is true of the letters of simple escapes (`"`, `\`, `/`, `b`, `f`, `n`,
+//! `r` and `t`), `unescaped letter` is the byte that a backslash means before this letter, and
+//! `letter_of byte` is the letter that is printed for a byte, or 0.
 
 ghost use Rattle.std.specs.Prelude.{◌≡◌, ◌<◌, IsTrue, IfSome};
 ghost use Rattle.std.specs.Char.{is_ascii_hexdigit, digit_char, digit_value};
@@ -63,7 +67,7 @@ static DIGIT_VALUES: [u8; 256] = [
     NONE, NONE, NONE, NONE, NONE, NONE, NONE, NONE, NONE, NONE, NONE, NONE, NONE, NONE, NONE, NONE,
 ];
 
-/// The character that a backslash means before this letter.
+/// The character that a backslash means before this letter, or `None` if no simple escape has it.
 #[inline(always)]
 pub fn meant_by(letter: u8) -> Option<char>
     ensures { SomeIff result (IsTrue (is_simple letter)) (unescaped letter) }
@@ -76,7 +80,7 @@ pub fn meant_by(letter: u8) -> Option<char>
     }
 }
 
-/// The letter of the simple escape of this byte.
+/// The letter of the simple escape that this byte is printed as, or `None` if it has none.
 #[inline(always)]
 pub fn letter_of(byte: u8) -> Option<u8>
     ensures letter { SomeIff result (0 < letter_of byte) (letter_of byte) }
@@ -90,7 +94,7 @@ pub fn letter_of(byte: u8) -> Option<u8>
     if letter == 0 { None } else { Some(letter) }
 }
 
-/// The value of the hexadecimal digit, of either case.
+/// The value of the hexadecimal digit, of either case, or `None` for any other byte.
 #[inline(always)]
 pub fn hex_value(byte: u8) -> Option<u32>
     ensures { SomeIff result (IsTrue (is_ascii_hexdigit byte)) (digit_value byte) }

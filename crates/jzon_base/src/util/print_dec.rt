@@ -1,5 +1,15 @@
-//! The text of a number (docs/RULES.md, "Printed numbers"; RFC 8259, section 6). In clauses, 45, 46
-//! and 48 are the bytes `-`, `.` and `0`, and `decimal n` are the digits of `n`.
+//! The text of a number (docs/RULES.md, "Printed numbers"; RFC 8259, section 6).
+//!
+//! In clauses, 45, 46 and 48 are the bytes `-`, `.` and `0`, `decimal n` are the digits of `n`, and
+//! `array_string_len text` is how many bytes `text` has. `number_text` is the text of a number. Its
+//! parts are `sign_text`, a minus or nothing, and `magnitude_text digits exponent`. This is made of
+//! `fraction_text digits k`, the digits divided by `10 ^ k`; `point_after k digits`, with a point
+//! after `k` of them; `point_after_first digits`, the same with 1, if there are more; and
+//! `small_exponent_text`, which `push_small_exponent` adds.
+//!
+//! `W.contents wr` are the bytes that a writer holds, if they are known; `Appends before after
+//! bytes` says that after the call they are those before it and then `bytes`, and
+//! `AppendsBeginning` says so of a prefix of `bytes`.
 
 ghost use Rattle.std.specs.Prelude.{◌≡◌, ◌+◌, ◌-◌, ◌≤◌, ◌<◌, ◌++◌, ◌∷◌, length, take, drop, replicate, decimal, IsAscii, IsTrue, false, OnOk, OnErr, vec_len, vec_capacity};
 ghost use Rattle.std.specs.Io.KnownBytes.{Appends};
@@ -13,7 +23,8 @@ use itoa::{Buffer, write_digits};
 use std::io::{self, Write};
 use std::simd::Simd;
 
-/// The most bytes in the text of a number.
+/// The most bytes in the text of a number: a minus, 20 digits, a point, and an exponent of 7 bytes,
+/// such as `e-32749`.
 pub const MAX_LEN: usize = 29;
 
 /// The most digits that `push_digits` adds after a point: they are moved at once.
@@ -39,9 +50,8 @@ pub fn write<W: Write>(wr: &mut W, positive: bool, n: u64, exponent: i16) -> io:
 }
 
 /// Adds the text of a common number, in a few stores, and returns whether it did. The caller writes
-/// any other number by `number_text`. A common number isn't 0; its text has no exponent, doesn't
-/// begin with `0.` or `-0.`, and has at most 16 digits after a point. Nothing is added either if too
-/// few bytes are free.
+/// any other number by `number_text`. A common number isn't 0; its exponent is 0 to -16, and its
+/// text doesn't begin with `0.` or `-0.`. Nothing is added either if fewer than 48 bytes are free.
 #[doc(hidden)]
 #[inline(always)]
 pub fn push_digits(bytes: &mut Vec<u8>, positive: bool, mantissa: u64, exponent: i16) -> bool
@@ -63,7 +73,8 @@ pub fn push_digits(bytes: &mut Vec<u8>, positive: bool, mantissa: u64, exponent:
 }
 
 /// Adds the sign and the digits of a number, with a point before the last `places`, if a digit
-/// precedes it, and returns whether it did. Otherwise nothing is added.
+/// precedes it, and returns whether it did. Otherwise nothing is added. `ilog10` plus 1 is the
+/// number of digits.
 #[inline(always)]
 fn push_decimal(bytes: &mut Vec<u8>, positive: bool, n: u64, places: usize) -> bool
     requires some { 0 < n }
@@ -110,6 +121,8 @@ fn put_after_minuses(bytes: &mut Vec<u8>, minuses: usize, n: u64) -> usize
 {
     let start = bytes.len();
     let end = start + minuses + n.ilog10() as usize + 1;
+    // Minuses fill the room, and `write_digits` puts the digits before `end`. The room is reserved,
+    // so `resize` takes no memory.
     let Ok(()) = bytes.resize(start + DIGITS_ROOM, b'-') else {
         unreachable!()
     };
@@ -135,8 +148,9 @@ pub fn number_text(positive: bool, mantissa: u64, exponent: i16) -> NumberText
     text
 }
 
-/// Adds digits with their exponent: as they are, with zeros after them, with a point between them,
-/// or with an exponent (docs/RULES.md, "Printed numbers").
+/// Adds digits with their exponent (docs/RULES.md, "Printed numbers"). For a positive exponent they
+/// get zeros, if they are then at most 20 digits; for one from -1 to -17 a point. For any other
+/// exponent but 0, a point after the first digit and an exponent.
 fn push_magnitude(text: &mut NumberText, digits: &str, exponent: i16)
     requires ascii { IsAscii digits.now }
     requires some { 0 < length digits.now }
@@ -182,7 +196,7 @@ fn push_fraction(text: &mut NumberText, digits: &str, places: usize)
 }
 
 /// Adds the exponent of `count` digits divided by `10 ^ places`, if the first digit is before the
-/// point: it is `count - 1 - places`. Nothing is added for the exponent 0.
+/// point: it is `count - 1 - places`, at most 1. Nothing is added for the exponent 0.
 fn push_small_exponent(text: &mut NumberText, count: usize, places: usize)
     requires count { count ≤ 20 }
     requires small { 18 ≤ places }
@@ -227,7 +241,7 @@ fn push_point_after(text: &mut NumberText, digits: &str, whole: usize)
     text.push_str(&digits[whole..]);
 }
 
-/// Adds zeros.
+/// Adds `count` zeros.
 fn push_zeros(text: &mut NumberText, count: usize)
     requires { array_string_len text.old + count ≤ 29 }
     ensures { text.new.bytes ≡ text.old.bytes ++ replicate count 48 }
