@@ -10,7 +10,7 @@
 //! `Lends R S self.entry result f` says that it is `f w`, for the last value `w` to which the
 //! reference referred; `R` and `S` name the types of the receiver and of `w`. `LendsIf .. result f
 //! x` and `LendsIfOk .. result f x` say so of `Some` and of `Ok`, and that the receiver is `x` at
-//! `None` or `Err`.
+//! `None` or `Err`. `ensures*` and `sem 𝓛` are the fixed wording of such a clause.
 //!
 //! `CallableOnEachPair .. keep entries` says that `keep` accepts each entry in turn;
 //! `RetainsPairs .. keep before after`, that `after` are the entries for which it returned `true`,
@@ -139,7 +139,8 @@ impl<V> Pairs<V> {
 
     /// The entries of keys, and of as many values. `known` is the filter or the index by which a
     /// strict reading found these keys distinct: it is of exactly these keys (the clause `Knows`),
-    /// and an index isn't made again. The error is a failed allocation.
+    /// and an index isn't made again. The error is a failed allocation. The clause says `put_each`,
+    /// as that of `from_entries` does; of distinct keys it makes no other entries.
     pub fn from_known(
         alloc: Global,
         keys: Vec<Key>,

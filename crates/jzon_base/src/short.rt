@@ -63,7 +63,7 @@ impl Short {
         Short { text: self.text }
     }
 
-    /// The string.
+    /// The string. The clauses `short` and `utf8` say to proofs what is true of each `Short`.
     pub fn as_str(&self) -> &str
         ensures text { result.now ≡ self.now }
         ensures short { length self.now ≤ MAX_LEN }

@@ -1,7 +1,8 @@
 //! An iterator over keys. The ghost member `next_gives` says that `next` yields the first of those
 //! that are left, `next_back_gives` that `next_back` yields the last, and `remaining` how many are
-//! left at most. At `size_hint`, `lower` and `upper` are the clauses of std's trait, and `exact`
-//! says more: both bounds are the number of keys that are left.
+//! left at most. (`λ s. s`: a clause sees the iterator as the list of those.) At `size_hint`,
+//! `lower` and `upper` are the clauses of std's trait, and `exact` says more: both bounds are the
+//! number of keys that are left.
 ghost use Rattle.std.specs.Prelude.{◌≡◌, List, ℕ, [], length, IfSome, Some};
 ghost use Rattle.std.specs.Iterator.{YieldsFirstRef, YieldsLastRef, item_count, at_most, UpTo};
 ghost use Rattle.std.specs.Iterator.SizeHint.{IsWithinCount};

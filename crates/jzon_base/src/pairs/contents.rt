@@ -7,7 +7,8 @@
 //!
 //! A clause `writes_back` says what the receiver is once a returned `&mut` is no longer used.
 //! `Lends R S self.entry result f` says that it is `f w`, for the last value `w` to which the
-//! reference referred; `R` and `S` name the types of the receiver and of `w`.
+//! reference referred; `R` and `S` name the types of the receiver and of `w`. `ensures*` and `sem
+//! 𝓛` are the fixed wording of such a clause.
 ghost use Rattle.std.specs.Prelude.{◌≡◌, ◌<◌, List, ℕ, length, remove, slice_get, Some, None, OnOk, OnErr, IfOk};
 ghost use Rattle.std.specs.List.{position, zip};
 ghost use Rattle.std.specs.Str.{bytes_eq};

@@ -1,8 +1,9 @@
 //! An iterator over entries. The ghost member `next_gives` says that `next` yields the first of
 //! those that are left, `next_back_gives` that `next_back` yields the last, and `remaining` how
-//! many are left at most. `λ x. (x.0.now, x.1.now)` is the entry to which a yielded pair of
-//! references refers. At `size_hint`, `lower` and `upper` are the clauses of std's trait, and
-//! `exact` says more: both bounds are the number of entries that are left.
+//! many are left at most. (`λ s. s`: a clause sees the iterator as the list of those.) `λ x.
+//! (x.0.now, x.1.now)` is the entry to which a yielded pair of references refers. At `size_hint`,
+//! `lower` and `upper` are the clauses of std's trait, and `exact` says more: both bounds are the
+//! number of entries that are left.
 ghost use Rattle.std.specs.Prelude.{◌≡◌, List, ℕ, [], length, IfSome, Some};
 ghost use Rattle.std.specs.Coded.{coded_ℕ, coded_list, coded×};
 ghost use Rattle.std.specs.Iterator.{YieldsFirstBy, YieldsLastBy, item_count, at_most, UpTo};
