@@ -74,8 +74,8 @@ pub fn read_scanned(
         return Ok(Number::from_parts_unchecked(positive, number, exponent));
     }
     let (number, dropped, kept_fraction) = kept_prefix(whole, fraction);
-    // The position of the first digit that is too many: before it are the kept digits, and as many
-    // dropped ones as are allowed.
+    // The first digit that is too many: before the point it follows the kept digits and 32767
+    // dropped ones, and after the point 32768 kept ones.
     if dropped > MAX_DROPPED {
         return Err(DigitFault::Whole(whole.len() - dropped + MAX_DROPPED));
     }
