@@ -1,4 +1,8 @@
 //! Conversions into values (docs/RULES.md, "Conversions").
+//!
+//! In clauses, a `Value` is a JSON value as plain data: `view v` is the one for which the
+//! `JsonValue` `v` stands, and `text kind bytes` is a string, which is stored as its kind says.
+//! `kind_of bytes` is inline up to 30 bytes, and allocated above.
 
 ghost use Rattle.std.specs.Prelude.{◌≡◌, ◌≤◌, ⊤, IfOk, IsOk, IsOkUnless, length};
 ghost use Rattle.jzon_tree.specs.Value.{Value, kind_of, text};
@@ -15,7 +19,8 @@ use std::alloc::Global;
 /// Types that convert into a value. An implementation says by the relation `means` which values a
 /// source means, and an `Ok` is one of them; and by `is_free` for which sources it never fails.
 ///
-/// Here `means` holds of each value, so that a caller learns nothing of it, and `is_free` of none:
+/// In this example `means` holds of each value, so that a caller learns nothing of the value, and
+/// `is_free` holds of no source:
 ///
 /// ```rust
 /// impl IntoJson for Server {
@@ -57,7 +62,8 @@ impl IntoJson for JsonValue {
     }
 }
 
-/// As `From` converts. It allocates nothing.
+/// The types of `Direct`: integers, `bool`, `Number`, `String` and `Object`. Each converts as by
+/// `JsonValue::from`, into the value that clauses call `T.value x`. It allocates nothing.
 impl<T: Direct> IntoJson for T {
     ghost means = { λ x v. v ≡ T.value x };
 
@@ -68,7 +74,8 @@ impl<T: Direct> IntoJson for T {
     }
 }
 
-/// A string of at most 30 bytes is stored inline, without an allocation.
+/// A string of at most 30 bytes (`MAX_LEN`) is stored inline, without an allocation. A longer one
+/// is copied to an allocated `String`.
 impl IntoJson for &str {
     ghost means = { λ s v. v ≡ text (kind_of s.now) s.now };
 

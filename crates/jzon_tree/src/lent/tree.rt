@@ -10,7 +10,9 @@
 //!
 //! Other words of clauses: `with_place null items index` are the elements once there is one for the
 //! index (`make_place` says how), and `place_in items index` is the position of this one.
-//! `with_default k v entries` are the entries, with (k, v) last if the key `k` is missing.
+//! `with_default k v entries` are the entries, with (k, v) last if the key `k` is missing; `put k v
+//! entries` also replaces the value of a key that is there, and `find k entries` is this value. A
+//! clause `present` says that only a call for a missing key or element can fail.
 
 ghost use Rattle.std.specs.Prelude.{◌≡◌, ◌≤◌, ◌<◌, List, ℕ, [], length, slice_get, slice_set, IfOk, IfSome, OnOk, OnErr, IsOkUnless, IsSome, MatchOption, Option, None, Some};
 ghost use Rattle.std.specs.Borrow.{sem, Lends, LendsIf, LendsIfOk, LendsSoOk};
@@ -58,7 +60,7 @@ pub trait Tree {
     // What the value means.
     ghost meaning: { Self → Value };
 
-    /// The entries of an object.
+    /// The entries of an object, to be written. `None` for any other value, whose `pairs` are `[]`.
     fn pairs_mut(&mut self) -> Option<&mut Pairs<Self::Node>>
         ensures* writes_back { sem 𝓛 (LendsIf Self.row
             (pairs_row Self.Node.row) self.entry result object self.old) }
@@ -85,7 +87,7 @@ pub trait Tree {
         ensures present { OnErr result (IfSome (items self.old) (λ xs. length xs ≤ index)) }
         ensures memory { IsOkUnless result Error.OutOfMemory };
 
-    /// The elements of a value that is an array.
+    /// The elements of a value that is an array, to be written.
     fn array_items(&mut self) -> &mut Vec<Self::Node>
         requires { IsSome (items self.old) }
         ensures* writes_back { sem 𝓛 (Lends Self.row
@@ -134,6 +136,7 @@ pub trait Tree {
     {
         self.make_place(alloc, index)?;
         let items = self.array_items();
+        // The index is in range now, or the element for it is the last one.
         let place = index.min(items.len() - 1);
         Ok(&mut items[place])
     }
@@ -166,10 +169,12 @@ impl Tree for JsonValue {
 
     fn make_key(&mut self, alloc: Global, key: &str) -> Result<usize> {
         if let JsonValue::Object(object) = self {
+            // `place` puts a missing key last, with null, and returns the key's position.
             return Ok(object.pairs.place(alloc, key, JsonValue::Null)?);
         }
         let mut object = Object::new(alloc);
         object.insert(alloc, key, JsonValue::Null)?;
+        // Nothing can fail any more. The key is the first one, at position 0.
         *self = JsonValue::Object(object);
         Ok(0)
     }
@@ -182,6 +187,7 @@ impl Tree for JsonValue {
             }
             return Ok(());
         }
+        // Room for up to two nulls, before the value changes.
         let mut items = Vec::with_capacity(alloc, 2)?;
         items.push_reserved(JsonValue::Null);
         if index != 0 {

@@ -1,10 +1,16 @@
-//! Writes into a value, by calls whose contracts say what the value is afterwards. In these,
-//! `with_place null items index` are the elements once there is one for the index, as
-//! `at_index_mut` adds it, and `place_in items index` is the position of this one.
+//! Writes into a value, by calls whose contracts say what the value is afterwards. In these, `view
+//! v` is the value for which the `JsonValue` `v` stands, as plain data. `entries` are the entries
+//! of an object, and none of any other value; `items_of` are the elements, if it is an array.
+//! `object (pairs_of ..)` and `array (values_of ..)` are the object and the array of a list. `find
+//! k entries` is the value of the key `k`, and `put k v entries` are the entries with this value,
+//! at the key's position or else last. `with_place null items index` are the elements once there is
+//! one for the index, as `at_index_mut` adds it, and `place_in items index` is the position of this
+//! one. A clause `present` says that only a call for a missing key or element can fail.
 //!
 //! A function `.._in` does the same for any type of the trait `Tree`, whose nodes are its values:
-//! `T.pairs` are the entries of an object, and `T.object` is the object of some entries. The
-//! checker proves a write through a reference only if its type isn't that of the receiver.
+//! `T.pairs` are the entries of an object, `T.object` is the object of some entries, `T.items` are
+//! the elements of an array, `T.null` is the null node, and `T.meaning` is what the value means.
+//! The checker proves a write through a reference only if its type isn't that of the receiver.
 #![tactic(auto, using(crate::proofs::Values::WriteViews::written))]
 
 ghost use Rattle.std.specs.Prelude.{◌≡◌, ◌≤◌, length, slice_set, IfSome, OnOk, OnErr, IsOkUnless, MatchOption, is_some, None, Some, true, false};
@@ -62,7 +68,7 @@ pub fn write_at_index(
     write_at_index_in(value, alloc, index, item)
 }
 
-/// `write_present` of any tree.
+/// `write_present` for any tree: returns whether the key is present, and writes only then.
 fn write_present_in<T: Tree>(tree: &mut T, key: &str, value: T::Node) -> bool
 where
     T::Node: Drop,
@@ -79,7 +85,7 @@ where
     }
 }
 
-/// `write_at` of any tree.
+/// `write_at` for any tree. At `Err` nothing has changed.
 fn write_at_in<T: Tree>(tree: &mut T, alloc: Global, key: &str, value: T::Node) -> Result<()>
 where
     T::Node: Drop,
@@ -92,7 +98,7 @@ where
     Ok(())
 }
 
-/// `write_at_index` of any tree.
+/// `write_at_index` for any tree. At `Err` the tree means what it meant.
 fn write_at_index_in<T: Tree>(
     tree: &mut T,
     alloc: Global,
