@@ -1,7 +1,9 @@
-//! The texts of objects (docs/RULES.md, "Layouts"). In clauses, `Writes style 0 v` holds of each
-//! text of `v` that the style allows. `IsValue v` says what the types of its parts promise: numbers
-//! in range, strings of UTF-8, distinct keys. The laws on reading back need this, so calls that
-//! print ensure it.
+//! The texts of objects (docs/RULES.md, "Layouts"). In clauses, `view_object` is the object as
+//! plain data, and `compact v` and `pretty v spaces 0` are texts of such data. `Writes style 0 v`
+//! holds of each text of `v` that the style allows. The 0 is the number of containers around `v`.
+//! `nest v` is its depth: how many non-empty containers nest in it. `IsValue v` says what the types
+//! of its parts promise: numbers in range, strings of UTF-8, distinct keys. The laws on reading
+//! back need this, so calls that print ensure it.
 
 ghost use Rattle.std.specs.Prelude.{◌≡◌, ◌<◌, ◌≤◌, ◌^◌, IfOk, IsOkUnless, string_bytes};
 ghost use Rattle.jzon_tree.specs.Lawful.{IsValue};
@@ -19,8 +21,9 @@ use jzon_base::error::{Error, Result};
 use std::alloc::Global;
 
 impl Object {
-    /// The compact text of the object, with no whitespace outside of its strings. Fails as
-    /// `JsonValue::dump`.
+    /// The compact text of the object, with no whitespace outside of its strings. Fails with
+    /// `OutOfMemory`, and with `ExceededDepthLimit` if non-empty containers nest 2^64 deep or
+    /// deeper.
     pub fn dump(&self, alloc: Global) -> Result<String>
         ensures text { IfOk result (λ text. string_bytes text ≡ compact (view_object self.now)) }
         ensures writing { IfOk result (λ text. Writes compact_style 0 (view_object self.now)
@@ -34,8 +37,8 @@ impl Object {
         self.lay_out(alloc, Compact)
     }
 
-    /// The text of the object with a line for each entry and element, as `JsonValue::pretty`
-    /// returns it. Fails as `JsonValue::dump`.
+    /// The text of the object with a line for each entry and element, and `spaces` spaces before it
+    /// for each container around it, as `JsonValue::pretty` returns it. Fails as `dump`.
     pub fn pretty(&self, alloc: Global, spaces: u16) -> Result<String>
         ensures text { IfOk result (λ text. string_bytes text
             ≡ pretty (view_object self.now) spaces 0) }
@@ -50,7 +53,8 @@ impl Object {
         self.lay_out(alloc, Pretty(spaces))
     }
 
-    /// The text of the object in a layout. Fails as `JsonValue::lay_out`.
+    /// The text of the object in a layout. Fails as `dump` does, and with `OutOfMemory` if the
+    /// layout's `order` fails.
     fn lay_out<L: Layout + Drop>(&self, alloc: Global, layout: L) -> Result<String>
         ensures writing { IfOk result (λ text. Writes (L.style layout) 0 (view_object self.now)
             (string_bytes text)) }
@@ -65,8 +69,8 @@ impl Object {
         {
             return Ok(generator.into_text());
         }
-        // The error in the slot isn't needed. Only the depth or an allocation can have failed, and
-        // the depth of the object says which.
+        // `&mut None` is the slot for the error of a hook, which isn't needed: only the depth or an
+        // allocation can have failed, and the depth of the object says which.
         Err(inspect_object(self).printing_error())
     }
 }
