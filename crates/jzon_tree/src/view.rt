@@ -1,10 +1,22 @@
 //! A value inside a value, which may be missing (docs/RULES.md, "Readers").
 //!
 //! In clauses, `shown v` is the value that the view `v` shows, or none if it is missing, and `seen
-//! v` is this value, or null if it is missing. `SomeWhere o P r` says that `r` is `Some` of the
-//! integer in `o`, if there is one and `P` holds of it, and else `None`. A definition such as
+//! v` is this value, or null if it is missing. Both are values as plain data, as is `view v`, for
+//! which the `JsonValue` `v` stands; `self.entry` is the argument `self`. `view_object`,
+//! `view_values` and `viewed` are the same for an object, for elements and for entries.
+//!
+//! `is_null`, `is_text` and so on say of which kind a value is, and `is_empty` and `count` are what
+//! `is_empty` and `len` return. `text_in`, `number_in`, `truth_in`, `object_of` and `array_of` are
+//! the string, number, boolean, object or array, if the value is one. `items` and `entries` are the
+//! elements and the entries, `[]` for any other value; `find k entries` is the value of the key
+//! `k`. `same` compares as `==` does, so the kind `short` of a text doesn't count.
+//!
+//! `SomeWhere o P r` says that `r` is `Some` of the integer in `o`, if there is one and `P` holds
+//! of it, and else `None`. `integer_in v` is the integer, of any size, if `v` is a number with the
+//! exponent 0, and `unsigned_in v` is the same if its sign is positive too. A definition such as
 //! `unsigned_fixed_point_in v point` is what the reading of that name gives, if it gives an
-//! integer, of any size. `same` compares as `==` does, so the kind `short` of a text doesn't count.
+//! integer, of any size. `FitsSigned w64` holds of the integers of 64 bits. `number (integer_parts
+//! n)` is the number of the integer `n`, with the exponent 0.
 #![tactic(auto, using(crate::proofs::Values::Views::views, crate::proofs::Values::PartViews::seen))]
 
 ghost use Rattle.std.specs.Prelude.{◌≡◌, ◌<◌, ◌^◌, pos, map, is_some, option_map, slice_get, FitsSigned, Some};
@@ -85,14 +97,16 @@ impl<'a> View<'a> {
         self.value
     }
 
-    /// The value of the key of an object. Missing if the key is, and for any other value.
+    /// The value of the key of an object. Missing if the key is, for any other value, and if this
+    /// view is.
     pub fn at(self, key: &str) -> View<'a>
         ensures { shown result ≡ find key.now (entries (seen self.entry)) }
     {
         self.value.map_or(self, |value| value.at(key))
     }
 
-    /// The element at a position of an array. Missing past the end, and for any other value.
+    /// The element at a position of an array. Missing past the end, for any other value, and if
+    /// this view is.
     pub fn at_index(self, index: usize) -> View<'a>
         ensures { shown result ≡ slice_get (items (seen self.entry)) index }
     {
@@ -149,42 +163,43 @@ impl<'a> View<'a> {
     }
 
     /// The number of entries of an object or of elements of an array, and 0 for any other value or
-    /// none.
+    /// if missing.
     pub fn len(self) -> usize
         ensures { result ≡ count (seen self.entry) }
     {
         self.value.map_or(0, JsonValue::len)
     }
 
-    /// The string, however it is stored. `None` for any other value or none.
+    /// The string, however it is stored. `None` for any other value or if missing.
     pub fn as_str(self) -> Option<&'a str>
         ensures { option_copied result ≡ text_in (seen self.entry) }
     {
         self.value?.as_str()
     }
 
-    /// The number, with its parts as they were parsed or set. `None` for any other value or none.
+    /// The number, with its parts as they were parsed or set. `None` for any other value or if
+    /// missing.
     pub fn as_number(self) -> Option<Number>
         ensures { result ≡ number_in (seen self.entry) }
     {
         self.value?.as_number()
     }
 
-    /// The boolean. `None` for any other value or none.
+    /// The boolean. `None` for any other value or if missing.
     pub fn as_bool(self) -> Option<bool>
         ensures { result ≡ truth_in (seen self.entry) }
     {
         self.value?.as_bool()
     }
 
-    /// The object. `None` for any other value or none.
+    /// The object. `None` for any other value or if missing.
     pub fn as_object(self) -> Option<&'a Object>
         ensures { option_map (λ o. view_object o.now) result ≡ object_of (seen self.entry) }
     {
         self.value?.as_object()
     }
 
-    /// The elements of the array. `None` for any other value or none.
+    /// The elements of the array. `None` for any other value or if missing.
     pub fn as_array(self) -> Option<&'a Vec<JsonValue>>
         ensures { option_map (λ vs. array (view_values vs.now.items)) result
             ≡ array_of (seen self.entry) }
@@ -200,7 +215,7 @@ impl<'a> View<'a> {
     }
 
     /// Iterates over the elements of an array in order, from both ends; over nothing for any other
-    /// value or none.
+    /// value or if missing.
     pub fn members(self) -> Members<'a>
         ensures { map view (iter_rest result) ≡ items (seen self.entry) }
     {
@@ -208,7 +223,7 @@ impl<'a> View<'a> {
     }
 
     /// Iterates over the entries of an object in order, from both ends; over nothing for any other
-    /// value or none.
+    /// value or if missing.
     pub fn entries(self) -> Entries<'a>
         ensures { viewed result ≡ entries (seen self.entry) }
     {
@@ -236,80 +251,80 @@ impl<'a> View<'a> {
         self.as_bool() == Some(other)
     }
 
-    /// The number as `JsonValue::as_u64` reads it: its exponent is 0, and it fits. `None` if the
-    /// value is missing.
+    /// The number as `JsonValue::as_u64` reads it: its sign is positive, its exponent is 0, and it
+    /// fits. `None` also if the value is missing.
     pub fn as_u64(self) -> Option<u64>
         ensures { SomeWhere (unsigned_in (seen self.entry)) (λ n. n < 2 ^ 64) result }
     {
         self.value?.as_u64()
     }
 
-    /// The number as `JsonValue::as_u32` reads it: its exponent is 0, and it fits. `None` if the
-    /// value is missing.
+    /// The number as `JsonValue::as_u32` reads it: its sign is positive, its exponent is 0, and it
+    /// fits. `None` also if the value is missing.
     pub fn as_u32(self) -> Option<u32>
         ensures { SomeWhere (unsigned_in (seen self.entry)) (λ n. n < 2 ^ 32) result }
     {
         self.value?.as_u32()
     }
 
-    /// The number as `JsonValue::as_u16` reads it: its exponent is 0, and it fits. `None` if the
-    /// value is missing.
+    /// The number as `JsonValue::as_u16` reads it: its sign is positive, its exponent is 0, and it
+    /// fits. `None` also if the value is missing.
     pub fn as_u16(self) -> Option<u16>
         ensures { SomeWhere (unsigned_in (seen self.entry)) (λ n. n < 2 ^ 16) result }
     {
         self.value?.as_u16()
     }
 
-    /// The number as `JsonValue::as_u8` reads it: its exponent is 0, and it fits. `None` if the
-    /// value is missing.
+    /// The number as `JsonValue::as_u8` reads it: its sign is positive, its exponent is 0, and it
+    /// fits. `None` also if the value is missing.
     pub fn as_u8(self) -> Option<u8>
         ensures { SomeWhere (unsigned_in (seen self.entry)) (λ n. n < 2 ^ 8) result }
     {
         self.value?.as_u8()
     }
 
-    /// The number as `JsonValue::as_usize` reads it: its exponent is 0, and it fits. `None` if the
-    /// value is missing.
+    /// The number as `JsonValue::as_usize` reads it: its sign is positive, its exponent is 0, and
+    /// it fits. `None` also if the value is missing.
     pub fn as_usize(self) -> Option<usize>
         ensures { SomeWhere (unsigned_in (seen self.entry)) (λ n. n < 2 ^ 64) result }
     {
         self.value?.as_usize()
     }
 
-    /// The number as `JsonValue::as_i64` reads it: its exponent is 0, and it fits. `None` if the
-    /// value is missing.
+    /// The number as `JsonValue::as_i64` reads it: its exponent is 0, and it fits. `None` also if
+    /// the value is missing.
     pub fn as_i64(self) -> Option<i64>
         ensures { SomeWhere (integer_in (seen self.entry)) (FitsSigned w64) result }
     {
         self.value?.as_i64()
     }
 
-    /// The number as `JsonValue::as_i32` reads it: its exponent is 0, and it fits. `None` if the
-    /// value is missing.
+    /// The number as `JsonValue::as_i32` reads it: its exponent is 0, and it fits. `None` also if
+    /// the value is missing.
     pub fn as_i32(self) -> Option<i32>
         ensures { SomeWhere (integer_in (seen self.entry)) (FitsSigned w32) result }
     {
         self.value?.as_i32()
     }
 
-    /// The number as `JsonValue::as_i16` reads it: its exponent is 0, and it fits. `None` if the
-    /// value is missing.
+    /// The number as `JsonValue::as_i16` reads it: its exponent is 0, and it fits. `None` also if
+    /// the value is missing.
     pub fn as_i16(self) -> Option<i16>
         ensures { SomeWhere (integer_in (seen self.entry)) (FitsSigned w16) result }
     {
         self.value?.as_i16()
     }
 
-    /// The number as `JsonValue::as_i8` reads it: its exponent is 0, and it fits. `None` if the
-    /// value is missing.
+    /// The number as `JsonValue::as_i8` reads it: its exponent is 0, and it fits. `None` also if
+    /// the value is missing.
     pub fn as_i8(self) -> Option<i8>
         ensures { SomeWhere (integer_in (seen self.entry)) (FitsSigned w8) result }
     {
         self.value?.as_i8()
     }
 
-    /// The number as `JsonValue::as_isize` reads it: its exponent is 0, and it fits. `None` if the
-    /// value is missing.
+    /// The number as `JsonValue::as_isize` reads it: its exponent is 0, and it fits. `None` also if
+    /// the value is missing.
     pub fn as_isize(self) -> Option<isize>
         ensures { SomeWhere (integer_in (seen self.entry)) (FitsSigned w64) result }
     {
@@ -317,8 +332,8 @@ impl<'a> View<'a> {
     }
 
     /// `mantissa * 10 ^ (exponent + point)`, truncated to an integer: with 2, `5.999` is 599.
-    /// `None` if the sign is negative, if the result doesn't fit, for NaN, and if the value is
-    /// missing.
+    /// `None` if the sign is negative, even that of `-0`, if the result doesn't fit, for NaN, and
+    /// if the value is missing.
     pub fn as_fixed_point_u64(self, point: u16) -> Option<u64>
         ensures { SomeWhere (unsigned_fixed_point_in (seen self.entry) point)
             (λ n. n < 2 ^ 64) result }

@@ -1,6 +1,11 @@
 //! Goes over all parts of a value. The type of each part promises something (a number in range, a
 //! string of UTF-8, distinct keys), and the proof learns it where the part is read; after the walk
-//! it is known of all parts.
+//! it is known of all parts. The functions with `#[cycle(inspect)]` call one another.
+//!
+//! In clauses, `view`, `view_object` and `view_values` are a value, an object and elements as plain
+//! data, and `array (values_of vs)` is the array of the list `vs`. `IsValue v` says what the types
+//! promise of all parts of `v`, and `InRange` of a number. `HasNoNan v` says that no number in `v`
+//! is NaN, and `nest v` is the depth of `v`: how many non-empty containers nest in it.
 
 ghost use Rattle.std.specs.Prelude.{◌≡◌, ◌<◌, ◌≤◌, ◌^◌, ◌∷◌, ◌++◌, ◌↔◌, [], List, IsTrue};
 ghost use Rattle.jzon_tree.specs.Private.Inspected.{IsInspected};
@@ -44,7 +49,8 @@ impl Inspection {
         }
     }
 
-    /// Why printing the value into memory failed: it is too deep, or else an allocation failed.
+    /// Why printing the value into memory failed: it is too deep, or else an allocation failed. It
+    /// is too deep from 2^64 on, because a generator counts open containers in a `u64`.
     pub(crate) fn printing_error(self) -> Error
         ensures memory { (v : Value) → IsInspected v self.has_nan self.nest → nest v < 2 ^ 64
             → result ≡ Error.OutOfMemory }
@@ -59,8 +65,8 @@ impl Inspection {
     }
 }
 
-/// Whether no number in the value is NaN, and at most `depth` non-empty containers nest in it.
-/// Allocates nothing.
+/// Whether no number in the value is NaN, and at most `depth` non-empty containers nest in it: then
+/// a reading of this depth reads its compact and pretty texts as equal values. Allocates nothing.
 pub fn is_readable(value: &JsonValue, depth: u16) -> bool
     ensures value { IsValue (view value.now) }
     ensures readable { IsTrue result ↔ (HasNoNan (view value.now)
@@ -104,7 +110,8 @@ pub(crate) fn inspect_object(object: &Object) -> Inspection
     ensures { IsInspected (view_object object.now) result.has_nan result.nest }
 {
     let mut found = Inspection::PLAIN;
-    // By position: the invariant speaks of the first `index` entries.
+    // By position: the invariant speaks of the first `index` entries. That their keys are distinct
+    // is promised by `len`.
     for index in 0..object.len() {
         let (_key, value) = object.pairs.get_at(index);
         found = found.with(inspect(value));

@@ -1,8 +1,16 @@
-//! The texts of values (docs/RULES.md, "Layouts"). In clauses, `Writes style 0 v` holds of each
-//! text of `v` that the style allows, and `Sends P before after result` says that a writer receives
-//! bytes for which `P` holds, or after an error a prefix of such bytes. `IsValue v` says what the
-//! types of its parts promise: numbers in range, strings of UTF-8, distinct keys. The laws on
-//! reading back need this, so calls that print ensure it.
+//! The texts of values (docs/RULES.md, "Layouts"). An indent is open for each non-empty container
+//! that is being written.
+//!
+//! In clauses, `view` is the value as plain data, and `compact v` and `pretty v spaces 0` are texts
+//! of such data. `Writes style 0 v` holds of each text of `v` that the style allows. The 0 is the
+//! number of containers around `v`. `nest v` is the depth of `v`: how many non-empty containers
+//! nest in it. `IsValue v` says what the types of its parts promise: numbers in range, strings of
+//! UTF-8, distinct keys. The laws on reading back need this, so calls that print ensure it.
+//!
+//! `W.contents writer` are the bytes that the writer holds, if they are known. `Appends before
+//! after bytes` says that these bytes were added, and `AppendsBeginning` that a prefix of them was.
+//! `Sends P before after result` says that a writer receives bytes for which `P` holds, or after an
+//! error a prefix of such bytes.
 
 ghost use Rattle.std.specs.Prelude.{◌≡◌, ◌<◌, ◌≤◌, ◌^◌, OnOk, OnErr, IfOk, IsOkUnless, string_bytes};
 ghost use Rattle.std.specs.Io.KnownBytes.{Appends};
@@ -78,8 +86,9 @@ impl JsonValue {
         {
             return Ok(generator.into_text());
         }
-        // The error in the slot isn't needed. Only the depth or an allocation can have failed, and
-        // the depth of the value says which.
+        // `&mut None` is the slot for the error of a hook, which isn't needed: only the depth or an
+        // allocation can have failed (also in the layout's `order`), and the depth of the value
+        // says which.
         Err(inspect(self).printing_error())
     }
 
@@ -134,6 +143,7 @@ impl JsonValue {
             (W.contents writer.old) (W.contents writer.new) result }
         ensures value { IsValue (view self.now) }
     {
+        // A borrowed layout is a layout too.
         let mut generator = TextGenerator::to_writer(writer, &layout);
         write_json(&mut generator, self)
     }
