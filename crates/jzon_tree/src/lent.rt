@@ -13,8 +13,9 @@
 //! one of an object and of a `Vec`, and `with_entries` makes an object of entries. `find`, `put`
 //! and `with_default` are the look-up of a key, the writing of its value, and the adding of a
 //! missing key. `items_with_place v index` are the elements of `v` once there is one for the index,
-//! and `place_made v index` is the position of this one. A clause `present` says that only a call
-//! for a missing key or element can fail.
+//! and `place_made v index` is the position of this one. `items_left` and `iter_mut_rest` are what
+//! an iterator has left. A clause `present` says that only a call for a missing key or element can
+//! fail.
 
 ghost use Rattle.std.specs.Prelude.{◌≡◌, ◌≤◌, [], length, slice_get, slice_set, IfOk, OnErr, IfSome, IsOkUnless, None, Some, unwrap_or};
 ghost use Rattle.std.specs.Borrow.{sem, LendsIf, LendsIfOk, LendsSoOk};

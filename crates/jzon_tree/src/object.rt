@@ -6,10 +6,11 @@
 //! entries. Of entries, `find k` is the value of the key `k`; `put k v` puts `v` under `k`, at the
 //! key's position if it is present, else last; `put_each` puts all into an empty list, one after
 //! the other; `cut k` removes the entry of `k`; `set_value entries i v` replaces the value at a
-//! position; and `with_default k v` adds an entry last if `k` is missing. `view_object` is the
-//! object as plain data. `PutMeans text means pairs v` says that `v` is, as plain data, the object
-//! of what these pairs mean, put one after the other. A clause `present` says that only a call for
-//! a missing key can fail.
+//! position; and `with_default k v` adds an entry last if `k` is missing. `iter_rest` and
+//! `iter_mut_rest` are what an iterator has left. `view_object` is the object as plain data.
+//! `PutMeans text means pairs v` says that `v` is, as plain data, the object of what these pairs
+//! mean, put one after the other. A clause `present` says that only a call for a missing key can
+//! fail.
 //!
 //! A clause `writes_back` says what the receiver is once a returned `&mut` is no longer used.
 //! `LendsIf .. result f x` says that at `Some` it is `f w`, for the last value `w` to which the
@@ -105,8 +106,9 @@ impl Object {
     }
 
     /// The object of these pairs, put one after the other: a later pair of a key replaces that
-    /// key's value at its position. The iterator must end. Fails with `OutOfMemory` only. In the
-    /// clause `pairs`, the iterator yields `ps` and then `None`.
+    /// key's value at its position. The iterator must accept calls of `next` (the clause `can`),
+    /// and end. Fails with `OutOfMemory` only. In the clause `pairs`, the iterator yields `ps` and
+    /// then `None`.
     ///
     /// ```rust
     /// let object = Object::from_pairs(alloc, pairs.into_iter())?;

@@ -9,7 +9,8 @@
 //! `is_empty` and `len` return. `text_in`, `number_in`, `truth_in`, `object_of` and `array_of` are
 //! the string, number, boolean, object or array, if the value is one. `items` and `entries` are the
 //! elements and the entries, `[]` for any other value; `find k entries` is the value of the key
-//! `k`. `same` compares as `==` does, so the kind `short` of a text doesn't count.
+//! `k`. `iter_rest` is what an iterator has left. `same` compares as `==` does, so the kind `short`
+//! of a text doesn't count.
 //!
 //! `SomeWhere o P r` says that `r` is `Some` of the integer in `o`, if there is one and `P` holds
 //! of it, and else `None`. `integer_in v` is the integer, of any size, if `v` is a number with the
@@ -331,9 +332,9 @@ impl<'a> View<'a> {
         self.value?.as_isize()
     }
 
-    /// `mantissa * 10 ^ (exponent + point)`, truncated to an integer: with 2, `5.999` is 599.
-    /// `None` if the sign is negative, even that of `-0`, if the result doesn't fit, for NaN, and
-    /// if the value is missing.
+    /// `mantissa * 10 ^ (exponent + point)`, truncated to an integer: with `point` 2, `5.999` is
+    /// 599. `None` if the sign is negative, even that of `-0`, if the result doesn't fit, for NaN,
+    /// and if the value is missing.
     pub fn as_fixed_point_u64(self, point: u16) -> Option<u64>
         ensures { SomeWhere (unsigned_fixed_point_in (seen self.entry) point)
             (λ n. n < 2 ^ 64) result }
@@ -341,16 +342,16 @@ impl<'a> View<'a> {
         self.value?.as_fixed_point_u64(point)
     }
 
-    /// `mantissa * 10 ^ (exponent + point)`, truncated to an integer, with its sign: with 2,
-    /// `-5.999` is -599. `None` if the result doesn't fit, for NaN, and if the value is missing.
+    /// `mantissa * 10 ^ (exponent + point)`, truncated to an integer, with its sign: with `point`
+    /// 2, `-5.999` is -599. `None` if the result doesn't fit, for NaN, and if the value is missing.
     pub fn as_fixed_point_i64(self, point: u16) -> Option<i64>
         ensures { SomeWhere (fixed_point_in (seen self.entry) point) (FitsSigned w64) result }
     {
         self.value?.as_fixed_point_i64(point)
     }
 
-    /// As `as_fixed_point_u64`, and `None` if a digit other than 0 would be cut: with 2, `5.990` is
-    /// 599, and `5.999` is `None`.
+    /// As `as_fixed_point_u64`, and `None` if a digit other than 0 would be cut: with `point` 2,
+    /// `5.990` is 599, and `5.999` is `None`.
     pub fn as_exact_fixed_point_u64(self, point: u16) -> Option<u64>
         ensures { SomeWhere (exact_unsigned_fixed_point_in (seen self.entry) point)
             (λ n. n < 2 ^ 64) result }
@@ -358,8 +359,8 @@ impl<'a> View<'a> {
         self.value?.as_exact_fixed_point_u64(point)
     }
 
-    /// As `as_fixed_point_i64`, and `None` if a digit other than 0 would be cut: with 2, `-5.990`
-    /// is -599, and `-5.999` is `None`.
+    /// As `as_fixed_point_i64`, and `None` if a digit other than 0 would be cut: with `point` 2,
+    /// `-5.990` is -599, and `-5.999` is `None`.
     pub fn as_exact_fixed_point_i64(self, point: u16) -> Option<i64>
         ensures { SomeWhere (exact_fixed_point_in (seen self.entry) point) (FitsSigned w64) result }
     {

@@ -36,7 +36,8 @@ use jzon_base::pairs::Pairs;
 use std::alloc::Global;
 
 /// A value that may be an object or an array of nodes, as a `JsonValue` is of values. `get_in`,
-/// `at_in` and `at_index_in` return mutable references to its nodes.
+/// `at_in` and `at_index_in` return mutable references to its nodes; `final` says that no
+/// implementation overrides them.
 pub trait Tree {
     type Node;
 
@@ -117,6 +118,7 @@ pub trait Tree {
         let index = self.make_key(alloc, key)?;
         match self.pairs_mut() {
             Some(pairs) => Ok(pairs.value_mut(index)),
+            // `make_key` left an object.
             None => unreachable!(),
         }
     }
