@@ -1,12 +1,16 @@
 //! Laws on texts, their trees and their values, for every reading: RFC 8259 with the project's own
 //! rules (`crates/jzon/CALLING.md`, "Laws"). These functions do nothing; each law is a function's
-//! contract. Call one in a function, as `laws::reads_back()`, to have its law as a fact in the proof
-//! of that function, by the name `c.reads_back.ensures`. CALLING.md, "How a law is called", has the
-//! lemmas that most callers need instead. A program needs none of them.
+//! contract. Call one in a function, as `laws::reads_back()`, to have its law as a fact in the
+//! proof of that function, by the name `c.reads_back.ensures`. CALLING.md, "How a law is called",
+//! has the lemmas that most callers need instead. A program needs none of them.
+//!
+//! A *tree* has every detail of a text, even its whitespace: it spells this text, and means a
+//! value. A *breach* is a limit that is exceeded at a character, and a *fault* an offset at which
+//! the text goes wrong, with the reason. A *style* says which writings of a value are allowed.
 
 ghost use Rattle.jzon.specs.Laws.{OneReading, OneText, DigitBreaches, OneFault, NumberText, Redump, StrictStyles, ReadsBack};
 
-/// Two trees that spell the same text are equal.
+/// Two trees that spell the same text are equal, so a text can be read in at most one way.
 pub fn one_reading()
     ensures { OneReading }
 {}
@@ -37,8 +41,8 @@ pub fn redump()
     ensures { Redump }
 {}
 
-/// The styles of the four generators allow only whitespace of a strict reading, so that
-/// `reads_back` applies to them in each reading.
+/// The compact style and the pretty styles, which the library's four generators have, allow only
+/// whitespace of a strict reading, so that `reads_back` applies to them in each reading.
 pub fn strict_styles()
     ensures { StrictStyles }
 {}
