@@ -1,4 +1,5 @@
-//! Which bytes are at an offset of a text.
+//! Which bytes are at an offset of a text. In clauses, `slice_index bytes i` is the byte at `i`,
+//! and 0 past the end.
 
 ghost use Rattle.std.specs.Prelude.{◌≡◌, ◌<◌, ◌≤◌, ◌+◌, ◌↔◌, length, IsTrue, slice_index};
 
@@ -22,7 +23,8 @@ pub(crate) fn has_byte(source: &str, index: usize, byte: u8) -> bool
     index < bytes.len() && bytes[index] == byte
 }
 
-/// Whether the four bytes from `index` on are `four`. They are compared at once.
+/// Whether the four bytes from `index` on are `four`. They are compared at once, as one `u32`. The
+/// clause `all` is the converse of the other clauses.
 #[inline(always)]
 pub(crate) fn has_four(source: &str, index: usize, four: [u8; 4]) -> bool
     requires { index ≤ length source.now }

@@ -3,12 +3,16 @@
 //! In clauses, `GoesOn before p result after next` compares two runs of the automaton
 //! (docs/ARCHITECTURE.md). At `Ok(x)`, the run from the state `p` at the cursor `before` has the
 //! outcome of the run from the state `next x` at the cursor `after`; at `Err`, the stop becomes the
-//! error of this outcome, or is `Memory`. `EndsItem` and `EndsKey` say so of what follows an
-//! element, an entry or a key that ends before byte `end`. `IsPast r bytes end cursor` says that
-//! the cursor is after the bytes before `end`, and after the whitespace that follows them. `fs` are
-//! the open containers; a state such as `before fs` or `after_closer fs v` is named by what was
-//! read in them or comes next, and has the value `v` that was read last. `Reports bytes e o` says
-//! that the stop `e` becomes the error of the outcome `o`.
+//! error of this outcome, or is `Memory`. `EndsItem before end kind result after` says so of each
+//! run from `before` in which an element or an entry of a container of this kind ends before byte
+//! `end`: at `Ok` it goes on after the comma or the closing bracket. `EndsKey` says it of a key and
+//! its colon. `IsPast r bytes end cursor` says that the cursor is after the bytes before `end`, and
+//! after the whitespace that follows them.
+//!
+//! `fs` are the open containers; a state such as `before fs` or `after_closer fs v` is named by
+//! what was read in them or comes next, and has the value `v` that was read last.
+//! `Reports bytes e o` says that the stop `e` becomes the error of the outcome `o`, and
+//! `fault_here rest` is the outcome if neither the next character nor the end of `rest` is allowed.
 
 ghost use Rattle.std.specs.Prelude.{◌≡◌, ◌≢◌, ◌<◌, ◌≤◌, ◌+◌, length, chars, drop, false, slice_index, Err, IfOk, None, Some, if◌then◌else◌, MatchOption};
 ghost use Rattle.std.specs.Str.{IsCharBoundary, IsUtf8};
@@ -86,7 +90,7 @@ pub(crate) struct Cursor<'a> {
 impl<'a> Cursor<'a> {
     ghost use Rattle.jzon.specs.Private.Cursor.{next_byte, IsPast, GoesOn, EndsItem, EndsKey};
 
-    /// Before the first token of a text.
+    /// The cursor before the first token of a text, after any whitespace.
     pub(crate) fn new(source: &'a str, reading: Reading) -> Cursor<'a>
         ensures { IsPast reading source.now 0 result }
     {
@@ -114,7 +118,8 @@ impl<'a> Cursor<'a> {
         self.index = skip_whitespace(self.source, self.reading, end);
     }
 
-    /// Moves past the next byte, which is a token, and the whitespace after it.
+    /// Moves past the next byte, an ASCII character that is a token by itself, and the whitespace
+    /// after it.
     #[inline(always)]
     pub(crate) fn bump(&mut self)
         requires some { 0 < next_byte self.old }
@@ -136,8 +141,9 @@ impl<'a> Cursor<'a> {
     /// Moves past the opening bracket that comes next, inside of `depth` containers. Returns
     /// whether the container is empty, and then moves past its closing bracket too. If it isn't
     /// empty, the call fails at the end of the text (`Stop::At`), and else if `depth` is the most
-    /// that the reading allows (`Stop::Limit`). (`value_mark r fs` is the breach of a value in
-    /// `fs`, if it is too deep.)
+    /// that the reading allows (`Stop::Limit`): empty containers don't count, so the limit is
+    /// exceeded only at the first character inside. (`value_mark r fs` is the breach of a value in
+    /// `fs`, if it is too deep; `frames_depth fs` is how many containers `fs` are.)
     #[inline(always)]
     pub(crate) fn open_container(&mut self, kind: ContainerKind, depth: usize) -> Result<bool>
         requires room { depth ≤ self.old.reading.depth }
@@ -169,8 +175,9 @@ impl<'a> Cursor<'a> {
     }
 
     /// Moves past the comma or the closing bracket after an element or an entry that ends at `end`,
-    /// at the cursor or after it. Returns whether the container ends. Most texts have no whitespace
-    /// there, so it is skipped only if neither a comma nor a closing bracket is at `end`.
+    /// at the cursor or after it. Returns whether the container ends; fails if neither follows.
+    /// Most texts have no whitespace there, so it is skipped only if neither a comma nor a closing
+    /// bracket is at `end`.
     #[inline(always)]
     pub(crate) fn container_ends(&mut self, end: usize, kind: ContainerKind) -> Result<bool>
         requires boundary { IsCharBoundary self.old.source.now end }
@@ -190,8 +197,8 @@ impl<'a> Cursor<'a> {
         Ok(next != b',')
     }
 
-    /// Moves past the colon after the key that ends at `end`. Whitespace before the colon is
-    /// skipped only if no colon is at `end`.
+    /// Moves past the colon after the key that ends at `end`; fails if none follows. Whitespace
+    /// before the colon is skipped only if no colon is at `end`.
     #[inline(always)]
     pub(crate) fn colon_at(&mut self, end: usize) -> Result<()>
         requires boundary { IsCharBoundary self.old.source.now end }

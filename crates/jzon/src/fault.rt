@@ -2,7 +2,9 @@
 //! returned for it (docs/RULES.md, "Which error is reported"). In clauses, `Reports bytes e o` says
 //! that the stop `e` becomes the error of the outcome `o` of the automaton (docs/ARCHITECTURE.md),
 //! and `fault_here rest` is the outcome if neither the next character nor the end of `rest` is
-//! allowed.
+//! allowed. `reported_error bytes e` is the error that is returned for the stop `e`, and
+//! `IsAtBoundary bytes e` says that its offset, if it has one, is that of a character or of the
+//! end.
 
 ghost use Rattle.std.specs.Prelude.{◌≡◌, ◌+◌, drop, chars};
 ghost use Rattle.std.specs.Str.{IsCharBoundary};
@@ -33,7 +35,7 @@ pub(crate) enum Stop {
 /// The result of a function of the parser.
 pub(crate) type Result<T> = std::result::Result<T, Stop>;
 
-/// `Memory`, so that `?` after a call of std returns it.
+/// `Memory`, so that `?` after a call of std returns it. (`from_gives` says what `from` returns.)
 impl From<AllocError> for Stop {
     ghost use Rattle.jzon.specs.declared.fault.Stop.TheVariants.{Memory};
 

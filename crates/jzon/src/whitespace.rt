@@ -1,6 +1,8 @@
 //! Whitespace (RFC 8259, section 2; docs/RULES.md, "Texts"). In clauses, `from r bytes p i` is the
 //! outcome of the automaton (docs/ARCHITECTURE.md) that starts in the state `p` at byte `i`, under
-//! the reading `r`.
+//! the reading `r`, and `allows_whitespace p` says that whitespace may be read in the state `p`.
+//! `is_whitespace strict` holds of the bytes that are whitespace; if `strict`, only of the four of
+//! RFC 8259.
 
 ghost use Rattle.std.specs.Prelude.{◌≡◌, IsTrue, ◌<◌, ◌≤◌, ◌+◌, drop, length, true, false, slice_index};
 ghost use Rattle.std.specs.Int.{w64, trailing_zeros};
@@ -16,7 +18,8 @@ use std::simd::prelude::*;
 /// The bytes that are compared at once.
 const LANES: usize = 16;
 
-/// The offset after the whitespace at `start`.
+/// The offset after the whitespace at `start`. Most often there is none, or one space, so these are
+/// tested first.
 #[inline(always)]
 pub(crate) fn skip_whitespace(source: &str, reading: Reading, start: usize) -> usize
     requires { IsCharBoundary source.now start }
@@ -69,9 +72,9 @@ fn whitespace_length(bytes: &[u8], strict: bool) -> usize
     len + whitespace_by_bytes(&bytes[len..], strict)
 }
 
-/// Which of the `LANES` bytes at an offset are not tabs, newlines, carriage returns or spaces, a
-/// bit for each. The clauses say that all are if no bit is set, and else that the lowest bit that
-/// is set is that of the first other byte.
+/// Which of the `LANES` bytes at `start` are other bytes than tabs, newlines, carriage returns and
+/// spaces (`is_whitespace true`), a bit for each. The clauses say that no byte is another if no bit
+/// is set, and else that the lowest bit that is set is that of the first other byte.
 #[inline(always)]
 fn others_in_lanes(bytes: &[u8], start: usize) -> u64
     requires { start + LANES ≤ length bytes.now }
