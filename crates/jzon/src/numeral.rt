@@ -12,8 +12,11 @@
 //! and `HasTooMany source start` to the fault that there are too many digits. `Leads` says of a
 //! result that an `Ok` leads to the state after the number, and that an `Err` reports the fault.
 //!
-//! `AreFewEnough` says that no limit on digits is exceeded. `digits_number ds` is the number that
-//! the digits `ds` spell, and `fold add_digit n ds` the number `n` with these digits after its own.
+//! `AreFewEnough` says that no limit on digits is exceeded, and `IsFirstTooMany whole fraction f`
+//! that the digit `f` is the first to exceed one. `digits_number ds` is the number that the digits
+//! `ds` spell, and `fold add_digit n ds` the number `n` with these digits after its own. The
+//! definition `read_number` is the number that a sign, the digits before and after the point and an
+//! exponent mean.
 
 ghost use Rattle.std.specs.Prelude.{◌≡◌, ℕ, pos, List, [], ◌∷◌, ◌<◌, ◌≤◌, ◌+◌, ◌%◌, ◌^◌, ◌++◌, length, drop, chars, not, Bool, true, false, ◌==◌, ◌↔◌, IsTrue, IfOk, slice_index, if◌then◌else◌};
 ghost use Rattle.std.specs.Char.{is_ascii_digit};
@@ -36,7 +39,8 @@ use crate::fault::{Result, Stop, fault_at};
 use jzon_base::digits::{read_scanned, scan};
 use jzon_base::number::Number;
 
-/// The number whose first digit is at `start`, and the offset after it.
+/// The number whose first digit is at `start`, after a minus if it is `negative`, and the offset
+/// after it. Fails with `Limit` if it has too many digits, and else if a digit is missing.
 #[inline(always)]
 pub(crate) fn read_number(source: &str, start: usize, negative: bool) -> Result<(Number, usize)>
     requires within { start < length source.now }
@@ -84,7 +88,8 @@ struct Spelling<'a> {
     ghost exponent_digits: { All IsDigit exponent.now },
 }
 
-/// The digits of the number whose first digit is at `start`.
+/// The digits of the number whose first digit is at `start`. The clauses say what the automaton
+/// comes to: the value of the number, or the fault of a missing digit or of too many digits.
 #[inline(always)]
 fn spelling_at(source: &str, start: usize) -> Spelling<'_>
     requires within { start < length source.now }
@@ -214,7 +219,8 @@ struct Exponent<'a> {
 }
 
 /// The exponent whose letter is before `start`. Clause `number`: with digits, the automaton goes on
-/// to the value of the number. Clause `missing`: without digits, it finds the fault at `end`.
+/// to the value of the number. Clause `missing`: without digits, it finds the fault at `end`. Not
+/// inlined, because few numbers have an exponent.
 #[cold]
 #[inline(never)]
 fn exponent_after(source: &str, start: usize) -> Exponent<'_>

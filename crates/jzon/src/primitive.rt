@@ -1,5 +1,5 @@
-//! Reads primitives: numbers, strings and literals (RFC 8259, section 3). The function that makes one
-//! puts it into its target, so that no value is moved from call to call.
+//! Reads primitives: numbers, strings and literals (RFC 8259, section 3). The function that makes
+//! one puts it into its target, so that no value is moved from call to call.
 //!
 //! In clauses, `from r bytes p i` is the outcome of the automaton (docs/ARCHITECTURE.md) that
 //! starts in the state `p` at byte `i`, under the reading `r`. `Reports bytes e o` says that the
@@ -9,7 +9,10 @@
 //! this value at byte `end`. At `Err` the target is as it was, and the error is that of the
 //! automaton or `Memory`. `MayBegin r fs bytes i` says that a value may begin at byte `i`: it isn't
 //! too deep, and neither whitespace nor the end of an empty array is there. The states `before fs`
-//! and `after_value fs v` are before a value in the containers `fs`, and after the value `v`.
+//! and `after_value fs v` are before a value in the containers `fs`, and after the value `v`;
+//! `numeral_after_first fs negative d` is after the first digit `d` of a number. `value_mark r fs`
+//! is the breach of a value in `fs`, if it is too deep. `T.has_room target` says that the target
+//! can take a value.
 
 ghost use Rattle.std.specs.Prelude.{◌≡◌, ◌≢◌, ◌⊎◌, ◌<◌, ◌+◌, length, IsTrue, IfOk, Err, MatchResult, codes, slice_index, None, true, false, IsAscii, ⊤};
 ghost use Rattle.std.specs.Char.{is_ascii_digit};
@@ -31,7 +34,8 @@ use jzon_tree::value::JsonValue;
 use std::alloc::Global;
 
 /// Puts the primitive at `start`, whose first byte is `first` (0 at the end of the text). Returns
-/// the offset after it.
+/// the offset after it. A string with escapes is unescaped in `buffer`, whose contents are
+/// unspecified afterwards.
 #[inline(always)]
 pub(crate) fn put_primitive<T: Target>(
     alloc: Global,
@@ -64,6 +68,7 @@ pub(crate) fn put_primitive<T: Target>(
         b'"' => {
             let spelled = read_string(source, start + 1, buffer)?;
             let (content, wide) = spelled.text(source, start + 1, buffer);
+            // `wide` begins with `content`: from there a short string is copied faster.
             put_string_value(alloc, content, wide, target)?;
             Ok(spelled.end)
         }
@@ -72,7 +77,8 @@ pub(crate) fn put_primitive<T: Target>(
     }
 }
 
-/// Puts the number whose first digit is at `start`. Returns the offset after it.
+/// Puts the number whose first digit is at `start`, after a minus if it is `negative`. Returns the
+/// offset after it.
 #[inline(always)]
 fn put_magnitude<T: Target>(
     source: &str,
@@ -113,6 +119,7 @@ fn put_literal<T: Target>(source: &str, start: usize, first: u8, target: &mut T)
         target.put(value);
         return Ok(prefix + 4);
     }
+    // One of the letters is wrong, so this call fails: it finds which one.
     let end = read_letters(source, prefix, &letters)?;
     target.put(value);
     Ok(end)

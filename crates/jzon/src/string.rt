@@ -11,7 +11,9 @@
 //! is the byte of the backslash. `ReadsCharacter source start p result` says that from such a state
 //! `p` at byte `start`, an `Ok` leads on to `between`, with one more character in `bs`.
 //! `EndsAtQuote source start end` says that the byte before `end` is a quote, and not before
-//! `start`; `is_plain` holds of a byte that needs no escape.
+//! `start`; `is_plain` holds of a byte that needs no escape. `code_unit` is the number that
+//! hexadecimal digits spell, `is_high` and `is_low` hold of high and low surrogates, and
+//! `pair_char` is the character of both.
 
 ghost use Rattle.std.specs.Prelude.{◌≡◌, ◌<◌, ◌≤◌, ◌+◌, ◌-◌, ◌++◌, ◌&&◌, ◌⊎◌, ◌↔◌, Contains, ℕ, List, [], length, take, IsTrue, IfOk, IsOk, IsOkUnless, SomeIff, MatchResult, OnOk, OnErr, slice_index, slice_range, string_bytes, if◌then◌else◌, false};
 ghost use Rattle.std.specs.Str.{IsCharBoundary};
@@ -71,7 +73,8 @@ impl Spelled {
 }
 
 /// Puts the string `content` into the target. Up to 30 bytes are stored inline, which never fails,
-/// and more are allocated. `wide` begins with `content`. The error is `Memory`.
+/// and more are allocated; `kind_of` says which. `wide` begins with `content`. The error is
+/// `Memory`, and the target is then as it was.
 #[inline(always)]
 pub(crate) fn put_string_value<T: Target>(
     alloc: Global,
@@ -130,7 +133,8 @@ pub(crate) fn read_string(source: &str, start: usize, buffer: &mut String) -> Re
     })
 }
 
-/// The offset after the unescaped characters from `start` on.
+/// The offset after the unescaped characters from `start` on: that of a quote, of a backslash, of a
+/// control character, which a string may not contain, or of the text's end.
 fn plain_end(source: &str, start: usize) -> usize
     requires { IsCharBoundary source.now start }
     ensures within { start ≤ result }
@@ -164,8 +168,8 @@ fn past_quote(source: &str, index: usize) -> Result<usize>
     }
 }
 
-/// Adds the rest of the string, unescaped, to the buffer; returns the offset after the closing
-/// quote.
+/// Adds the rest of the string, which begins with a backslash at `start`, to the buffer, unescaped;
+/// returns the offset after the closing quote.
 #[inline(never)]
 fn read_escapes(source: &str, start: usize, buffer: &mut String) -> Result<usize>
     requires boundary { IsCharBoundary source.now start }
@@ -191,7 +195,8 @@ fn read_escapes(source: &str, start: usize, buffer: &mut String) -> Result<usize
     past_quote(source, index)
 }
 
-/// The character of the escape whose backslash is before `start`, and the offset after it.
+/// The character of the escape whose backslash is before `start`, and the offset after it. If it is
+/// a `\u` escape of a surrogate, a second escape belongs to it.
 fn read_escape(source: &str, start: usize) -> Result<(char, usize)>
     requires { IsCharBoundary source.now start }
     ensures end { IfOk result (λ r. (start < r.1) × IsCharBoundary source.now r.1) }
@@ -200,6 +205,7 @@ fn read_escape(source: &str, start: usize) -> Result<(char, usize)>
     if has_byte(source, start, b'u') {
         let digits = start + 1;
         let unit = read_hex(source, digits)?;
+        // Only a surrogate is no character.
         return match char::from_u32(unit) {
             Some(ch) => Ok((ch, digits + 4)),
             None => read_second(source, digits + 4, unit),
@@ -211,8 +217,9 @@ fn read_escape(source: &str, start: usize) -> Result<(char, usize)>
     }
 }
 
-/// The character of the surrogate `first` and of the one that must follow at `start`, and the
-/// offset after both.
+/// The character of the surrogate `first` and of the one whose escape must follow at `start`, and
+/// the offset after both. Fails at the first wrong byte if no `\u` escape follows, and with
+/// `Surrogates` if the two code units aren't a high and a low surrogate.
 fn read_second(source: &str, start: usize, first: u32) -> Result<(char, usize)>
     requires { IsCharBoundary source.now start }
     ensures end { IfOk result (λ r. (start < r.1) × IsCharBoundary source.now r.1) }
@@ -231,7 +238,7 @@ fn read_second(source: &str, start: usize, first: u32) -> Result<(char, usize)>
     }
 }
 
-/// The character of a surrogate pair.
+/// The character of a surrogate pair; `None` if the two aren't a high and a low surrogate.
 fn paired_char(high: u32, low: u32) -> Option<char>
     ensures { SomeIff result (IsTrue (is_high high && is_low low)) (pair_char high low) }
 {
@@ -259,10 +266,12 @@ fn read_hex(source: &str, start: usize) -> Result<u32>
             return Ok(((a * 16 + b) * 16 + c) * 16 + d);
         }
     }
+    // Fewer than four bytes are left, or one of the four isn't a digit: this call finds which.
     read_hex_by_digits(source, start)
 }
 
-/// The code unit, read digit by digit, so that the error is at the first byte that is no digit.
+/// Does what `read_hex` does, digit by digit, so that the error is at the first byte that is no
+/// digit, or at the end of the text.
 #[cold]
 #[inline(never)]
 fn read_hex_by_digits(source: &str, start: usize) -> Result<u32>
