@@ -1,20 +1,28 @@
 //! Parses texts (RFC 8259, section 2; docs/RULES.md, "Texts").
 //!
-//! In clauses, `left cursor p` is the outcome of the automaton (docs/ARCHITECTURE.md) that starts
-//! in the state `p` at the cursor, and `Reads bytes result o` says that the result is the value of
-//! this outcome, or a stop that becomes its error, or `Memory`. `GoesOn before p result after next`
-//! says that at `Ok(x)`, `left before p` is `left after (next x)`, and at `Err` the stop becomes
-//! the error of this outcome or is `Memory`. `PassesOn` says so of each run that has come to `p` at
-//! `before`: such a call may end a container without reading a byte.
+//! In the clauses of the public functions, `IsMeaningOf r text v` says that the text means the
+//! value `v` and exceeds no limit of the reading `r`, and `IsReadable r v` that `v` contains no NaN
+//! and nests no deeper than `r` allows. `IsErrorUnlessMemory r text e` says that `e` is the text's
+//! first error or `OutOfMemory`, and `TakesMemory text` that the text contains a quote, a `[` or a
+//! `{`.
 //!
-//! States: `before fs` is before a value in the containers `fs`, and `before_item stacks` before an
-//! element or a key of the innermost one. `after_read stacks next` and `after_end stacks v` are
-//! where `read_value` and `end_containers` end. `frames_here stacks` are all open containers, and
+//! In the other clauses, `left cursor p` is the outcome of the automaton (docs/ARCHITECTURE.md)
+//! that starts in the state `p` at the cursor, and `from r bytes p i` the same at byte `i`, under
+//! the reading `r`. `Reads bytes result o` says that the result is the value of the outcome `o`, or
+//! a stop that becomes its error, or `Memory`. `GoesOn before p result after next` says that at
+//! `Ok(x)`, `left before p` is `left after (next x)`, and at `Err` the stop becomes the error of
+//! this outcome or is `Memory`. `PassesOn` says so of each run that has come to `p` at `before`:
+//! such a call may end a container without reading a byte.
+//!
+//! States: `before fs` is before a value in the containers `fs` (`no_frames`: in none),
+//! `after_value fs v` after the value `v`, and `before_item stacks` before an element or a key of
+//! the innermost container. `after_read stacks next` and `after_end stacks v` are where
+//! `read_value` and `end_containers` end. `frames_here stacks` are all open containers, and
 //! `frames_around stacks` all but the innermost one, whose value is `whole stacks.innermost`.
 //! Conditions: `IsBeforeItem`, `IsAfterValue` and `IsAfterEnd` hold of the cursor and the stacks in
-//! these states. `HasAllValues kind c` says that each key of `c` has its value, and `AwaitsValue
-//! kind c` that the last one has none yet. `KeepsAround` says that the containers around are as
-//! before.
+//! these states. `HasAllValues kind c` says that each key of `c` has its value, and
+//! `AwaitsValue kind c` that the last one has none yet. `KeepsAround` says that the containers
+//! around are as before.
 
 ghost use Rattle.std.specs.Prelude.{◌≡◌, ◌≢◌, ◌<◌, ◌+◌, length, chars, IfOk, IfErr, Err, None, Some, OnOk, true};
 ghost use Rattle.jzon_tree.specs.View.{view};
@@ -172,9 +180,10 @@ impl<'a> Parser<'a> {
         }
     }
 
-    /// Reads items of the innermost container: to its end, or to a container in it that isn't
-    /// empty, of which it reads the opening bracket. `ReadsItems` has the clauses that `read_value`
-    /// has too: `kept`, `after` and `outcome`.
+    /// Reads elements or entries of the innermost container: to its end, or to a container in it
+    /// that isn't empty, of which it reads the opening bracket. Returns the kind of this container,
+    /// or `None` at the end. `ReadsItems` has the clauses that `read_value` has too: `kept`,
+    /// `after` and `outcome`.
     #[inline(always)]
     fn read_items(&mut self) -> fault::Result<Option<ContainerKind>>
         requires before { IsBeforeItem self.old.cursor self.old.stacks }
@@ -199,7 +208,9 @@ impl<'a> Parser<'a> {
         }
     }
 
-    /// Reads the next key of the innermost container, and the colon.
+    /// Reads the next key of the innermost container, and the colon. A repeated key of a strict
+    /// reading is rejected at its opening quote, by `push_key`, which returns `true`. (`wide`
+    /// begins with `name`, and makes it faster to copy.)
     #[inline(always)]
     fn read_key(&mut self) -> fault::Result<()>
         requires object { self.old.stacks.innermost.kind ≡ ContainerKind.Object }
@@ -264,7 +275,7 @@ impl<'a> Parser<'a> {
     }
 
     /// Makes the value of the innermost container, which ended, adds it to the container around it,
-    /// and reads the comma or the closing bracket after it; goes on so as long as containers end.
+    /// and reads the comma or the closing bracket after it; repeats this as long as containers end.
     /// Returns `None` after a comma: the next element or key follows. If the outermost container
     /// ended, its value is returned.
     #[inline(always)]

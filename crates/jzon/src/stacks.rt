@@ -4,10 +4,13 @@
 //! A clause sees a list of containers, each with its kind, keys and values. `AwaitsValue kind c`
 //! says that the last key of an object has no value yet, and `HasAllValues kind c` that each key
 //! has one; both hold of an array, which has no keys. `whole c` is the value of the container if it
-//! ends now. `value_added s v`, `key_added s k` and `container_added s kind` are the stacks `s`
-//! with one more value, key or container in the innermost one, and `innermost_ended s` has nothing
-//! in it. `IsAdded s v t` says that `t` has the containers around the innermost one of `s`, and the
-//! value `v` added to the last of them; `IsClosed s t` says so of the value of the innermost one.
+//! ends now, and `new_container kind` a container with nothing in it. `entries_so_far c` are the
+//! entries of an object, without a key whose value is still to come. `put_each ps` are the entries
+//! `ps` put into an object one after the other. `value_added s v`, `key_added s k` and
+//! `container_added s kind` are the stacks `s` with one more value, key or container in the
+//! innermost one, and `innermost_ended s` those with nothing in it. `IsAdded s v t` says that `t`
+//! has the containers around the innermost one of `s`, and the value `v` added to the last of them;
+//! `IsClosed s t` says so of the value of the innermost one.
 
 ghost use Rattle.std.specs.Prelude.{◌≡◌, ◌≢◌, ◌&&◌, if◌then◌else◌, slice_index, IfSome, None, Some, ◌≤◌, ◌<◌, [], ◌∷◌, ◌++◌, length, take, drop, vec_len, vec_capacity, IfOk, OnOk, OnErr, MatchOption, true, ◌+◌};
 ghost use Rattle.std.specs.List.{zip};
@@ -63,8 +66,8 @@ pub(crate) struct Stacks {
     innermost: Frame,
     /// The containers around the innermost one, the outermost first.
     around: Vec<Frame>,
-    /// In a strict reading, which rejects a repeated key: the keys of the innermost container. `None`
-    /// in one that isn't strict.
+    /// In a strict reading, which rejects a repeated key: the keys of the innermost container.
+    /// `None` in one that isn't strict.
     known: Option<KnownKeys>,
     /// In a strict reading: the keys of each container around, the outermost first.
     known_around: Vec<KnownKeys>,
@@ -117,8 +120,8 @@ fn grow(alloc: Global, values: &mut Vec<JsonValue>) -> Result<(), AllocError>
 }
 
 /// Removes what is on the stack from `start` on, and returns it in a block of its exact size. The
-/// outermost container gets the stack's own block instead, unless it has outgrown the first room and
-/// more than half of it is unused. The error is a failed allocation.
+/// outermost container gets the stack's own block instead, unless it has outgrown the first room
+/// and more than half of it is unused. The error is a failed allocation.
 #[inline(always)]
 fn cut_tail<T>(
     alloc: Global,
@@ -137,10 +140,10 @@ fn cut_tail<T>(
     stack.split_off(start)
 }
 
-/// Does what `cut_tail` does, with one exception. If the values from `start` on are many, only few are
-/// before them, and most of the block is used, they keep the block, and those before them are moved to
-/// a new one, because a copy of many values touches new pages. After an error the values may be in
-/// another order.
+/// Does what `cut_tail` does, with one exception. If the values from `start` on are many, only few
+/// are before them, and most of the block is used, they keep the block, and those before them are
+/// moved to a new one, because a copy of many values touches new pages. After an error the values
+/// may be in another order.
 #[inline(always)]
 fn cut_values(
     alloc: Global,
@@ -155,6 +158,7 @@ fn cut_values(
 {
     let count = stack.len() - start;
     if LONG < count && !is_outermost && start <= count / 8 && stack.capacity() / 2 <= count {
+        // Moves the values from `start` on to the front: they keep the block.
         stack.as_mut_slice().rotate_left(start);
         let front = stack.split_off(count)?;
         return Ok(mem::replace(stack, front));
@@ -164,7 +168,8 @@ fn cut_values(
 
 /// In a strict reading: puts what is known of the keys of the innermost container on the stack
 /// `around`, and begins anew, with no keys, for a container that is opened in it. The error is a
-/// failed allocation. (`Knows keys known` in a clause: `known` is known of exactly these keys.)
+/// failed allocation. (What is known of keys is a filter or an index, which finds a repeated key.
+/// `Knows keys known` in a clause: `known` is known of exactly these keys, which are distinct.)
 #[cold]
 #[inline(never)]
 fn open_known(known: &mut Option<KnownKeys>, around: &mut Vec<KnownKeys>) -> Result<(), AllocError>
@@ -182,7 +187,8 @@ fn open_known(known: &mut Option<KnownKeys>, around: &mut Vec<KnownKeys>) -> Res
     Ok(())
 }
 
-/// In a strict reading: takes back what is known of the keys of the container around one that ended.
+/// In a strict reading: takes back what is known of the keys of the container around one that
+/// ended.
 #[cold]
 #[inline(never)]
 fn close_known(known: &mut Option<KnownKeys>, around: &mut Vec<KnownKeys>)
@@ -273,8 +279,11 @@ impl Stacks {
     }
 
     /// Adds the primitive at `start`, whose first byte is `first` (0 at the end of the text).
-    /// Returns the offset after it. The clause `outcome` says this of the automaton, if a value may
-    /// begin at `start` (`MayBegin`); after an error the stacks are as they were.
+    /// Returns the offset after it. A string with escapes is unescaped in `buffer`. The clause
+    /// `outcome` says (`Puts`) that the value is added, and that the automaton of
+    /// docs/ARCHITECTURE.md goes on to the state after it, if a value may begin at `start`
+    /// (`MayBegin`). At `Err` the stacks are as they were, and the error is the automaton's or
+    /// `Memory`.
     #[inline(always)]
     pub(crate) fn push_primitive(
         &mut self,
@@ -296,8 +305,9 @@ impl Stacks {
     }
 
     /// Adds a key to the innermost container, which is an object. If the reading is strict and the
-    /// object has the key, it is rejected instead. Returns whether it is rejected. `wide` begins with
-    /// `name`.
+    /// object has the key, it is rejected instead. Returns whether it is rejected. `wide` begins
+    /// with `name`: from there a short key is copied by a fixed number of bytes, which is faster.
+    /// The error is a failed allocation; the stacks are unspecified then.
     #[inline(always)]
     pub(crate) fn push_key(&mut self, name: &str, wide: &str) -> Result<bool, AllocError>
         requires object { self.old.innermost.kind ≡ ContainerKind.Object }
@@ -343,7 +353,8 @@ impl Stacks {
         Ok(false)
     }
 
-    /// Opens a container in the innermost one, whose next value it is. The error is a failed allocation.
+    /// Opens a container in the innermost one, whose next value it is. The error is a failed
+    /// allocation.
     #[inline(always)]
     pub(crate) fn open(&mut self, kind: ContainerKind) -> Result<(), AllocError>
         requires { AwaitsValue self.old.innermost.kind self.old.innermost }
@@ -353,6 +364,7 @@ impl Stacks {
         if self.known.is_some() {
             open_known(&mut self.known, &mut self.known_around)?;
         }
+        // Copied field by field, because a copy of the whole frame moves its padding in pieces.
         self.around.push_reserved(Frame { ..self.innermost });
         self.innermost.kind = kind;
         self.innermost.first_key = self.keys.len();
@@ -360,9 +372,9 @@ impl Stacks {
         Ok(())
     }
 
-    /// Removes the elements of the innermost container, which is an array that ended, and returns them.
-    /// A single one gets a block of one, also in the outermost container, where `cut_values` would
-    /// leave it the block of eight. The error is a failed allocation.
+    /// Removes the elements of the innermost container, which is an array that ended, and returns
+    /// them. A single one gets a block of one, also in the outermost container, where `cut_values`
+    /// would leave it the block of eight. The error is a failed allocation.
     #[inline(always)]
     fn end_array(&mut self) -> Result<Vec<JsonValue>, AllocError>
         requires { self.old.innermost.keys ≡ [] }
@@ -381,8 +393,8 @@ impl Stacks {
         cut_values(self.alloc, &mut self.values, start, is_outermost)
     }
 
-    /// Removes the entries of the innermost container, which is an object that ended, and returns this
-    /// object. The error is a failed allocation.
+    /// Removes the entries of the innermost container, which is an object that ended, and returns
+    /// this object. The error is a failed allocation.
     #[inline(always)]
     fn end_object(&mut self) -> Result<Object, AllocError>
         requires object { self.old.innermost.kind ≡ ContainerKind.Object }
@@ -405,7 +417,8 @@ impl Stacks {
     }
 
     /// Adds this value of the innermost container, which ended and has nothing left, to the one
-    /// around it. If there is none, the value is returned. The error is a failed allocation.
+    /// around it. If there is none, the value is returned. The error is a failed allocation; the
+    /// stacks are unspecified then.
     #[inline(always)]
     fn close_with(&mut self, value: JsonValue) -> Result<Option<JsonValue>, AllocError>
         requires { self.old.innermost ≡ new_container self.old.innermost.kind }
