@@ -2,9 +2,10 @@
 //!
 //! In clauses, `W.contents w` are the bytes of the writer `w`, if they are known, and `left b` are
 //! those in the buffer, which the writer didn't take yet. `held W.contents S.start b` are the name
-//! of the reference to the writer, its bytes, and then those in the buffer. They are known only if
-//! the writer's bytes are, and are at least `S.start`. So a call that keeps them (`Keeps before
-//! after`), or adds bytes to them (`Appends before after bytes`), kept the writer and its bytes.
+//! of the reference to the writer (`ghost_name`), its bytes, and then those in the buffer. They are
+//! known only if the writer's bytes are, and are at least `S.start`. So a call that keeps them
+//! (`Keeps before after`), or adds bytes to them (`Appends before after bytes`), kept the writer
+//! and its bytes. `x.entry` is the argument `x` as it was passed.
 
 ghost use Rattle.std.specs.Prelude.{◌≡◌, ℕ, ◌+◌, ◌≤◌, [], length, take, vec_len, vec_capacity, MatchOption, OnOk, IfNone, IfSome, IsSome};
 ghost use Rattle.std.specs.Io.KnownBytes.{Appends, Keeps};
@@ -42,7 +43,8 @@ pub struct Buffered<'a, W, S> {
 impl<'a, W: Write, S: Start> Buffered<'a, W, S> {
     ghost use Rattle.jzonfmt.specs.Buffered.{held, left};
 
-    /// A buffer before a writer, in memory that is empty.
+    /// A buffer before the writer `inner`. `memory` is an empty vector, whose capacity is the size
+    /// of the buffer.
     pub fn new(inner: &'a mut W, memory: Vec<u8>) -> Buffered<'a, W, S>
         ensures same_reference { result.inner.ghost_name ≡ inner.entry.ghost_name }
         ensures writer { result.inner.now ≡ inner.old }
@@ -58,7 +60,7 @@ impl<'a, W: Write, S: Start> Buffered<'a, W, S> {
         }
     }
 
-    /// The writer. Bytes that weren't written are dropped.
+    /// The reference to the writer that `new` got. Bytes that weren't written are dropped.
     pub fn into_writer(self) -> &'a mut W
         ensures same_reference { result.ghost_name ≡ self.entry.inner.ghost_name }
         ensures writer { result.now ≡ self.entry.inner.now }
@@ -66,7 +68,8 @@ impl<'a, W: Write, S: Start> Buffered<'a, W, S> {
         self.inner
     }
 
-    /// Writes all bytes. An error is the writer's, or `WriteZero` where it accepted none.
+    /// Writes all bytes that are held, without a flush of the writer. An error is the writer's, or
+    /// `WriteZero` where it accepted none.
     #[cold]
     #[inline(never)]
     pub fn write_out(&mut self) -> io::Result<()>
@@ -86,9 +89,9 @@ impl<'a, W: Write, S: Start> Buffered<'a, W, S> {
         Ok(())
     }
 
-    /// Writes all bytes, and then holds as many of `buf` as there is room for. An error is stored
-    /// in the slot: an `io::Error` takes 88 bytes, which the caller would reserve and clear even
-    /// where there is room for all.
+    /// Writes all bytes, and then holds as many of `buf` as there is room for. Returns how many, or
+    /// `None` after an error, which is stored in the slot: an `io::Error` takes 88 bytes, which the
+    /// caller would reserve and clear even where there is room for all.
     #[cold]
     #[inline(never)]
     fn write_out_and_hold(&mut self, buf: &[u8]) -> Option<usize>
@@ -120,7 +123,7 @@ impl<'a, W: Write, S: Start> Buffered<'a, W, S> {
         };
     }
 
-    /// Takes the stored error. There is one after each failed call.
+    /// Takes the stored error. There is one after `write_out_and_hold` returned `None`.
     #[inline(always)]
     fn take_error(&mut self) -> io::Error
         ensures bytes { Keeps (held W.contents S.start self.old)
@@ -159,7 +162,8 @@ impl<W: Write, S: Start> Write for Buffered<'_, W, S> {
     }
 }
 
-/// Where there is room, short strings, digits and short lines are added to the buffer at once.
+/// Where there is room, short strings, digits and short lines are added to the buffer at once. Each
+/// call returns whether it added all; if not, it added nothing.
 impl<W: Write, S: Start> Outlet for Buffered<'_, W, S> {
     #[inline(always)]
     fn put_string(&mut self, string: &[u8]) -> bool {

@@ -2,10 +2,13 @@
 //!
 //! In clauses, `W.contents w` are the bytes of the writer `w`, and `R.remaining r` those that the
 //! reader `r` has left, if they are known. `WritesWhole bytes result before after` says that these
-//! bytes are written, or after an error a prefix of them. `Answers reading layout input result
-//! before after` says what the result for an input is: at `Ok` the line of the text's value is
-//! written, at `Write` a prefix of it, and after any other fault nothing. `Runs` says so of an
-//! input that is read first. Names that begin with `asked_` define what the arguments ask for.
+//! bytes are written, or after an error a prefix of them.
+//! `Answers reading layout input result before after` says what the result for an input is: at `Ok`
+//! the line of the text's value is written, at `Write` a prefix of it, and after any other fault
+//! nothing. `Runs` says so of an input that is read first. `Drives` says that for invalid arguments
+//! the status is 2 and nothing is read or written, and for others the status is that of the result
+//! of `Runs`. Names that begin with `asked_` define what the arguments ask for. `text layout v` is
+//! the text of the value `v`, and `line layout v` this text and a newline.
 
 ghost use Rattle.std.specs.Prelude.{◌≡◌, ℕ, List, [], IfOk, IfErr, OnOk, map, option_map, string_bytes, vec_len};
 ghost use Rattle.std.specs.Io.KnownBytes.{Consumes, Keeps};
@@ -44,7 +47,8 @@ pub struct Options {
 /// Why a text was not printed, or only in part.
 #[derive(Debug, Drop)]
 pub enum RunFault {
-    /// The reader failed with this error, an interruption included; or the arguments couldn't be read.
+    /// The reader failed with this error, an interruption included; or the arguments couldn't be
+    /// read.
     Read(io::Error),
     /// The input is not UTF-8.
     NotUtf8,
@@ -68,6 +72,7 @@ impl RunFault {
     }
 }
 
+/// The message, without a newline. (`output` is the text that is written.)
 impl fmt::Display for RunFault {
     ghost use Rattle.std.specs.Prelude.{Some};
     ghost use Rattle.jzonfmt.specs.Drive.{fault_text};
@@ -85,6 +90,7 @@ impl fmt::Display for RunFault {
     }
 }
 
+/// `Memory`. (`from_gives` says what `from` returns.)
 impl From<AllocError> for RunFault {
     ghost use Rattle.jzonfmt.specs.declared.engine.RunFault.TheVariants.{Memory};
 
@@ -95,6 +101,7 @@ impl From<AllocError> for RunFault {
     }
 }
 
+/// `Memory` for `OutOfMemory`, and `Json` for any other error of the library.
 impl From<Error> for RunFault {
     ghost use Rattle.std.specs.Prelude.{◌≡◌};
     ghost use Rattle.jzonfmt.specs.Run.{fault_of};
@@ -186,7 +193,7 @@ fn print_input<W: Write>(
 
 /// Writes the text of the value in the layout and a newline, buffered in `memory`. After an error a
 /// prefix of them is written. `S.start`, which only the proof has, is how many bytes the writer
-/// has.
+/// has (`known_len`: 0 if that isn't known).
 fn write_line<W: Write, S: Start>(
     writer: &mut W,
     memory: Vec<u8>,
@@ -235,7 +242,8 @@ fn write_text<W: Outlet>(writer: &mut W, value: &JsonValue, layout: Layout) -> i
 
 /// The program, apart from where its arguments and streams come from: reads the arguments, runs,
 /// flushes the writer after an `Ok`, writes the message of a fault to `faults`, and returns the
-/// exit status. A failed write of that message is ignored.
+/// exit status: 0, 2 if the arguments are invalid, or that of the fault. A failed write of that
+/// message is ignored.
 pub fn drive<R: Read, W: Write, F: Write>(
     alloc: Global,
     words: &[String],
@@ -258,12 +266,14 @@ pub fn drive<R: Read, W: Write, F: Write>(
     }
 }
 
-/// The options that the arguments name: a layout, and maybe `--strict` before or after it.
+/// The options that the arguments name: a layout, and maybe `--strict` before or after it. `None`
+/// if the arguments are invalid.
 fn options_of(words: &[String]) -> Option<Options>
     ensures { result ≡ asked_options (map string_bytes words.now) }
 {
     let (strict, words) = split_strict(words);
     let layout = layout_of(words)?;
+    // The depth of `parse`, and the most that is allowed, so this is never `None`.
     let reading = Reading::new(strict, 512)?;
     Some(Options { reading, layout })
 }
@@ -281,7 +291,8 @@ fn split_strict(words: &[String]) -> (bool, &[String])
     }
 }
 
-/// The layout that the arguments name.
+/// The layout that the arguments name: the compact one if there are none, a pretty one for
+/// `--pretty N`. `None` for any others.
 fn layout_of(words: &[String]) -> Option<Layout>
     ensures { result ≡ asked_layout (map string_bytes words.now) }
 {
@@ -294,7 +305,8 @@ fn layout_of(words: &[String]) -> Option<Layout>
     }
 }
 
-/// The number of spaces that an argument of one to five decimal digits names.
+/// The number of spaces that an argument of one to five decimal digits names; `None` for any other
+/// argument, and above 65535.
 fn spaces_of(word: &str) -> Option<u16>
     ensures { result ≡ asked_spaces word.now }
 {
