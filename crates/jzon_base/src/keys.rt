@@ -11,14 +11,14 @@
 //!
 //! In clauses, `bytes_eq` is the equality of keys. `IsIndexed keys index` says that the index is
 //! empty or has the entries of exactly these keys, and `IsTable keys index` that the keys are
-//! distinct too. `IsSpotFor keys index name hash at` says that in an index that isn't empty, the
+//! distinct too. `IsSpotFor keys index name hash at` says that the index isn't empty, and that the
 //! entry of the missing key `name` has this hash and belongs at position `at` of the last run.
 ghost use Rattle.std.specs.Prelude.{◌≡◌, ◌<◌, ◌++◌, ◌∷◌, ◌==◌, [], length, remove, slice_get, List, ℕ, IfOk, IfErr, OnOk, OnErr, MatchOption, None, Some, vec_len, vec_capacity};
 ghost use Rattle.std.specs.List.{position, zip, IsDistinct};
 ghost use Rattle.std.specs.Result.{result_ok};
 ghost use Rattle.std.specs.Str.{bytes_eq};
 ghost use Rattle.jzon_base.specs.PairList.{put_each};
-ghost use Rattle.jzon_base.specs.Private.Handed.{IsIndexed, IsSpotFor, IsTable};
+ghost use Rattle.jzon_base.specs.Private.Handed.{entries_of, IsIndexed, IsSpotFor, IsTable};
 ghost use Rattle.jzon_base.specs.Private.Known.{Knows};
 
 mod entries;
@@ -61,7 +61,7 @@ impl Model for Keys {
     ghost invariant = { λ k. IsTable k.keys.items k.index };
 }
 
-/// Where the index entry of a missing key belongs. It has no use while the keys have no index.
+/// Where the index entry of a missing key belongs, if the keys have an index.
 #[derive(Drop)]
 struct Spot {
     /// The hash of the key.
@@ -70,21 +70,22 @@ struct Spot {
     at: usize,
 }
 
-/// The position of a key. The error is where the entry of a missing key belongs, if the keys have
-/// an index; else its fields are 0.
+/// The position of a key. The error is where the index entry of a missing key belongs; `None` if
+/// the keys have no index.
 #[inline(always)]
-fn search(keys: &[Key], index: &Runs, name: &str) -> Result<usize, Spot>
+fn search(keys: &[Key], index: &Runs, name: &str) -> Result<usize, Option<Spot>>
     requires { IsTable keys.now index.now }
     ensures position { result_ok result ≡ position (λ k. bytes_eq k name.now) keys.now }
-    ensures spot { IfErr result (λ s. IsSpotFor keys.now index.now name.now s.hash s.at) }
+    ensures spot { IfErr result (λ spot. MatchOption spot (length (entries_of index.now) ≡ 0)
+        (λ s. IsSpotFor keys.now index.now name.now s.hash s.at)) }
 {
     if index.is_empty() {
-        return few::position(keys, name).ok_or(Spot { hash: 0, at: 0 });
+        return few::position(keys, name).ok_or(None);
     }
     let hash = hash_of(name);
     index
         .search(keys, hash, name)
-        .map_err(|at| Spot { hash, at })
+        .map_err(|at| Some(Spot { hash, at }))
 }
 
 /// Makes the index of keys and a missing key, which the caller puts after them. The error is a
@@ -113,29 +114,34 @@ fn add_entry(
     keys: &[Key],
     index: &mut Runs,
     name: &str,
-    spot: Spot,
+    spot: Option<Spot>,
 ) -> Result<(), AllocError>
     requires table { IsTable keys.now index.old }
     requires missing { position (λ k. bytes_eq k name.now) keys.now ≡ None }
-    requires spot { IsSpotFor keys.now index.old name.now spot.hash spot.at }
+    requires spot { MatchOption spot (length (entries_of index.old) ≡ 0)
+        (λ s. IsSpotFor keys.now index.old name.now s.hash s.at) }
     ensures ok { OnOk result (IsIndexed (keys.now ++ name.now ∷ []) index.new) }
     ensures err { OnErr result (IsIndexed keys.now index.new) }
 {
-    if index.is_empty() {
+    let Some(spot) = spot else {
         if keys.len() < LINEAR_MAX {
             return Ok(());
         }
         return begin_index(alloc, keys, index, name);
-    }
+    };
     index.add(alloc, keys, spot.hash, spot.at)
 }
 
-/// Makes room for one more element. The error is a failed allocation.
+/// Makes room for one more element. If there is room, the test here takes fewer instructions than
+/// `reserve`. The error is a failed allocation.
 #[inline(always)]
 fn reserve_next<T>(items: &mut Vec<T>) -> Result<(), AllocError>
     ensures items { items.new.items ≡ items.old.items }
     ensures room { OnOk result (vec_len items.new < vec_capacity items.new) }
 {
+    if items.len() < items.capacity() {
+        return Ok(());
+    }
     let room = if items.capacity() == 0 { FIRST_ROOM } else { 1 };
     items.reserve(room)
 }
@@ -293,8 +299,8 @@ impl Keys {
         };
         // All allocations come before the key is pushed, so a failed one leaves the keys as they
         // were.
-        reserve_next(values)?;
         reserve_next(&mut self.keys)?;
+        reserve_next(values)?;
         let key = Key::new(alloc, name)?;
         add_entry(alloc, self.keys.as_slice(), &mut self.index, name, spot)?;
         self.keys.push_reserved(key);

@@ -55,7 +55,8 @@ pub record IsTable (ks : List (List ℕ)) (rs : List (List (ℕ × ℕ))) : Type
   pub indexed : IsIndexed ks rs
   pub distinct : IsDistinct bytes_eq ks
 
--- if there are index entries, the entry of a name has this hash, and belongs there in the last run
+-- there are index entries; that of a name has this hash, and belongs there in the last run
 pub record IsSpotFor (ks : List (List ℕ)) (rs : List (List (ℕ × ℕ))) (name : List ℕ) (h at : ℕ) : Type 0 where
-  pub own : length (entries_of rs) ≢ 0 → h ≡ hash_of name
-  pub spot : length (entries_of rs) ≢ 0 → IsSpot ks h name rs at
+  pub some : length (entries_of rs) ≢ 0
+  pub own : h ≡ hash_of name
+  pub spot : IsSpot ks h name rs at
