@@ -1,5 +1,14 @@
 //! Changes to values (docs/RULES.md, "Changers"). A call that fails leaves the value's meaning
 //! unchanged and drops the value that was passed to it.
+//!
+//! In clauses, `view v` is what the value `v` means. `with_item`, `without_item`, `with_entry`,
+//! `without_entry`, `without_text` and `cleared` give what a call leaves of it. `items` are the
+//! elements of an array, `entries` the entries of an object (of a `JsonValue`: `entries_in`), and
+//! `count` is how many there are: none for any other value. `find k entries` is the value of the
+//! key `k`, and `or_null` makes null of `None`. `T.means value v` says that `value` converts into
+//! `v`, and `T.is_free value` that this can't fail. `IsRefusal k kind e` says that the error `e` is
+//! `OutOfMemory` or, if `k` is false, `WrongType(kind)`. A `WrongType` has an allocated string, so
+//! a call on a value of the wrong kind may fail with either.
 #![tactic(auto, using(crate::proofs::Values::Views::views, crate::proofs::Values::PartViews::seen))]
 
 ghost use Rattle.std.specs.Prelude.{◌≡◌, ◌-◌, codes, true, false, string_bytes, option_map, slice_get, remove, IfOk, IfErr, OnOk, OnErr, IsOkUnless, None};
@@ -98,13 +107,14 @@ impl JsonValue {
             (slice_get (items (view self.old)) (count (view self.old) - 1)) }
         ensures after { view self.new ≡ without_item (count (view self.old) - 1) (view self.old) }
     {
+        // Without an element this is 0, which is past the end.
         let last = self.len().saturating_sub(1);
         self.array_remove(last)
     }
 
-    /// Puts the value under the key of an object: at the key's position if it is present, else
-    /// last. Fails with `WrongType("Object")` if `self` isn't an object, and with `OutOfMemory`;
-    /// then `self` is as it was, and `value` is dropped.
+    /// Puts the value under the key of an object: at the key's position if it is present, which
+    /// needs no allocation, else last. Fails with `WrongType("Object")` if `self` isn't an object,
+    /// and with `OutOfMemory`; then `self` is as it was, and `value` is dropped.
     ///
     /// ```rust
     /// data.insert(alloc, "first", first)?;
@@ -124,8 +134,10 @@ impl JsonValue {
         }
     }
 
-    /// Removes the entry of the key of an object and returns its value, as `Object::remove` does.
-    /// Null if the key is missing, and for any other value, which is left as it is.
+    /// Removes the entry of the key of an object and returns its value. Null if the key is missing,
+    /// and for any other value, which is left as it is. The other entries keep their order: those
+    /// after it move up, so the time of a call grows with the number of entries (measured, not
+    /// proved).
     pub fn remove(&mut self, key: &str) -> JsonValue
         ensures value { view result ≡ or_null (find key.now (entries (view self.old))) }
         ensures after { view self.new ≡ without_entry key.now (view self.old) }

@@ -1,5 +1,7 @@
 //! Copies of values and of objects: `clone(alloc)`, and std's `Clone` for `derive(Clone)` and for
-//! `clone` of lists.
+//! `clone` of lists. In clauses, `view` gives what a value means, and `view_object` what an object
+//! means. `copy_fields` is a fast copy: of a `Number` not by way of the stack, and of a `Short`
+//! without a call.
 #![tactic(auto, using(crate::proofs::Values::Views::views))]
 
 ghost use Rattle.std.specs.Prelude.{◌≡◌, ◌+◌, ◌<◌, ◌++◌, ◌∷◌, [], map, true, false, IfOk, IsOkUnless, vec_len, vec_capacity};
@@ -35,6 +37,7 @@ impl JsonValue {
 impl Object {
     /// A copy of the object, with the parts of its numbers and the order of its keys. Fails with
     /// `OutOfMemory` only.
+    // Not inlined into the loop over elements, which has a smaller stack frame without it.
     #[inline(never)]
     #[cycle(copy)]
     pub fn clone(&self, alloc: Global) -> Result<Object>
@@ -42,12 +45,14 @@ impl Object {
         ensures memory { IsOkUnless result Error.OutOfMemory }
     {
         let values = copy_items(alloc, self.pairs.values())?;
+        // The copied keys, with these values.
         let pairs = self.pairs.with_values(alloc, values)?;
         Ok(Object { pairs })
     }
 }
 
-/// Copies of the values, in order.
+/// Copies of the values, in order. Not inlined, neither into itself nor into `Object::clone`, so
+/// that its stack frame stays small.
 #[inline(never)]
 #[cycle(copy)]
 fn copy_items(alloc: Global, items: &[JsonValue]) -> Result<Vec<JsonValue>>
@@ -63,8 +68,9 @@ fn copy_items(alloc: Global, items: &[JsonValue]) -> Result<Vec<JsonValue>>
     Ok(copies)
 }
 
-/// Adds a copy of the value if it is stored inline, and returns whether it is. The copy is made in
-/// place, because a value that is returned is moved.
+/// Adds a copy of the value if it is stored inline (null, a boolean, a number or a `Short`), and
+/// returns whether it is; else `copies` stays as it is. There must be room for the copy, which is
+/// made in place, because a value that is returned is moved.
 #[inline(always)]
 fn push_inline(copies: &mut Vec<JsonValue>, value: &JsonValue) -> bool
     requires { vec_len copies.old < vec_capacity copies.old }
@@ -84,7 +90,8 @@ fn push_inline(copies: &mut Vec<JsonValue>, value: &JsonValue) -> bool
     true
 }
 
-/// As `JsonValue::clone`, with the allocator of the value. The error is a failed allocation.
+/// As `JsonValue::clone`, with the allocator of the value. The error is a failed allocation, the
+/// only error of `clone(alloc)`.
 impl Clone for JsonValue {
     ghost is_clone = { λ v w. view w ≡ view v };
 

@@ -1,5 +1,7 @@
 //! Equality of values and of objects (docs/RULES.md, "Equality"). By the ghost member `eq`, `==` is
-//! the definition `same`, and `laws` proves that this is an equivalence.
+//! the definition `same`, and `laws` proves that this is an equivalence. `same_items` is `same` at
+//! each position, of as many elements. `view` and the like give what a value means, an object, and
+//! values. `find k entries` is the value of the key `k`.
 
 ghost use Rattle.std.specs.Prelude.{◌≡◌, Some};
 ghost use Rattle.std.specs.Option.{option_copied};
@@ -73,7 +75,8 @@ impl Eq for Object {
     ghost laws = { on_equiv view_object same_equiv };
 }
 
-/// Whether there are as many elements, and those at the same position are equal.
+/// Whether there are as many elements, and those at the same position are equal. Not inlined, for
+/// the same reason as `eq` of objects.
 #[inline(never)]
 #[cycle(same)]
 fn same_array(items: &[JsonValue], others: &[JsonValue]) -> bool
@@ -90,9 +93,9 @@ fn same_array(items: &[JsonValue], others: &[JsonValue]) -> bool
     true
 }
 
-/// The value of the key in the object. `entry` is the object's entry at the position that the key
-/// has in the other object. It is tried first, because equal objects mostly have their keys in one
-/// order.
+/// The value of the key in `object`; `None` if the key is missing. `entry` is an entry of `object`,
+/// at the position that the key has in the other object. It is tried first, because equal objects
+/// mostly have their keys in one order.
 #[inline(always)]
 fn find_from<'a>(
     object: &'a Object,

@@ -1,4 +1,6 @@
-//! Values from types whose conversion allocates nothing (docs/RULES.md, "Conversions").
+//! Values from types whose conversion allocates nothing (docs/RULES.md, "Conversions"). In clauses,
+//! `integer_parts n` is the number of the integer `n`, with the exponent 0; `pos n` is an unsigned
+//! `n` as an integer. `view` gives the meaning of a value, such as `number`, `boolean` or `text`.
 
 ghost use Rattle.std.specs.Prelude.{◌≡◌, pos, string_bytes};
 ghost use Rattle.jzon_base.specs.Decimal.{integer_parts};
@@ -21,7 +23,7 @@ pub trait Direct: Drop {
         ensures { view result ≡ value self };
 }
 
-/// Never fails, and allocates nothing.
+/// Converts by `into_value`. Never fails, and allocates nothing.
 impl<T: Direct> From<T> for JsonValue {
     ghost from_gives = { λ x v. view v ≡ T.value x };
 
