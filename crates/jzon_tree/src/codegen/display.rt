@@ -1,6 +1,11 @@
 //! `Display` of a value (docs/RULES.md, "Layouts"). It writes to the formatter as it goes, and
 //! allocates nothing. The clause `WritesOnOk .. before result text after` says that an `Ok` wrote
-//! `text` to the formatter.
+//! `text` to the formatter, if this is as for `{}`; after an `Err` nothing is promised of what was
+//! written.
+//!
+//! In clauses, `displayed v` is what is shown of the value `v`, `compact v` is its compact text,
+//! and `quoted s` is a string in quotes, escaped. `view`, `view_object` and `view_values` give what
+//! a value, an object and values mean.
 
 ghost use Rattle.std.specs.Prelude.{Some};
 ghost use Rattle.std.specs.Fmt.{WritesOnOk};
@@ -15,8 +20,8 @@ use crate::value::JsonValue;
 use jzon_base::util::plain::plain_len;
 use std::{fmt, str};
 
-/// A string without quotes, a number as `Number` shows it, and all else as in the compact layout.
-/// An error is the formatter's.
+/// A string without quotes, a number as `Number` shows it (NaN as `nan`), and all else as in the
+/// compact layout. An error is the formatter's.
 impl fmt::Display for JsonValue {
     ghost output = { λ value. Some (displayed (view value)) };
 
@@ -30,7 +35,7 @@ impl fmt::Display for JsonValue {
     }
 }
 
-/// Shows the value in the compact layout.
+/// Shows the value in the compact layout: strings in quotes, and NaN as `null`.
 #[cycle(show)]
 fn show<W: fmt::Write>(value: &JsonValue, f: &mut fmt::Formatter<W>) -> fmt::Result
     ensures { WritesOnOk W.write_str_gives f.old result (compact (view value.now)) f.new }
@@ -96,12 +101,14 @@ fn show_string<W: fmt::Write>(text: &str, f: &mut fmt::Formatter<W>) -> fmt::Res
     f.write_str("\"")?;
     let mut rest = text.as_bytes();
     loop {
+        // `plain_len` is the number of bytes before the first that needs an escape.
         let (run, others) = rest.split_at(plain_len(rest));
         show_bytes(run, f)?;
         let Some((byte, others)) = others.split_first() else {
             break;
         };
         let mut room = [0; ESCAPE_MAX_LEN];
+        // The escape is put at the end of `room`, from `at` on.
         let at = put_escape(&mut room, *byte);
         show_bytes(&room[at..], f)?;
         rest = others;
@@ -109,8 +116,8 @@ fn show_string<W: fmt::Write>(text: &str, f: &mut fmt::Formatter<W>) -> fmt::Res
     f.write_str("\"")
 }
 
-/// Shows bytes that are UTF-8: each run ends where the text does, or before a byte below 128. The
-/// error isn't reached.
+/// Shows a run of a string or an escape. Both are UTF-8, because an escape is ASCII, and a run ends
+/// where the text does, or before a byte below 128. So the error isn't reached.
 fn show_bytes<W: fmt::Write>(bytes: &[u8], f: &mut fmt::Formatter<W>) -> fmt::Result
     ensures { WritesOnOk W.write_str_gives f.old result bytes.now f.new }
 {

@@ -1,16 +1,25 @@
 //! Goes over a value or an object, and calls the hooks of a generator. A hook whose name begins
 //! with `try_` stores its error in the slot (`error_slot`); `store` does so for the other hooks.
 //!
-//! In clauses, `Emits P before after result` says what a hook does to the state of a generator: an
-//! `Ok` adds bytes that `P` allows; an `Err` adds a prefix of such bytes, and counts a fault.
-//! `Prints` says so of a call of several hooks; an `Err` of it may leave more indents open.
+//! In clauses, `G.meaning g` is the state of the generator `g`: its bytes, its style, the number of
+//! its open indents (`dent`) and the number of its faults, which are errors that it counted.
+//! `Emits P before after result` says what a hook does to this state: an `Ok` adds bytes that `P`
+//! allows; an `Err` adds a prefix of such bytes, and counts a fault. `Prints` says so of a call of
+//! several hooks; an `Err` of it may leave more indents open.
+//!
+//! `view v` is what a value means, and `view_object` and the like say so of an object and so on.
+//! `Writes style dent v` holds of each text of `v` that the style allows inside of `dent` indents.
+//! `IsValue v` says what the types of its parts promise: numbers in range, strings of UTF-8,
+//! distinct keys. `AreValues` says so of elements, and `ArePairs` and `IsPair` of the keys and
+//! values of entries and of one entry.
+//!
 //! `PrintsIf K` promises something of an `Err` only if `K` holds, and `PrintsValue v` is `PrintsIf
 //! (IsValue v)` for the writings of `v`: a part of `v` isn't read after an error, so the proof
 //! doesn't know there whether `v` is a value. `AreItems`, `AreMembers`, `IsEntry`, `IsBetween` and
 //! `IsClosing` allow the bytes of a part: all elements, all entries, one entry, what is before an
-//! element or an entry, and what ends a container. `Writes style dent v` holds of each text of `v`
-//! that the style allows inside of `dent` indents. `IsValue v` says what the types of its parts
-//! promise: numbers in range, strings of UTF-8, distinct keys.
+//! element or an entry, and what ends a container. `IsAnswer style keys order` says that the result
+//! of the hook `order` has each position once and is allowed by the style; `positions n order` are
+//! these positions, or 0 to `n - 1` for `None`.
 
 ghost use Rattle.std.specs.Prelude.{◌≡◌, ◌-◌, ◌<◌, [], length, map, slice_index_or, OnOk, OnErr, IsSome};
 ghost use Rattle.jzon_base.specs.PairList.{keys_of};
@@ -104,7 +113,7 @@ pub(crate) fn write_value<G: Generator>(
 }
 
 /// Writes `[]`, or the brackets of an array and its elements between them, in an indent of their
-/// own.
+/// own. Not inlined into the loops, as `write_value` is.
 #[cycle(write_value)]
 #[inline(never)]
 fn write_array<G: Generator>(g: &mut G, items: &[JsonValue], slot: &mut ErrorSlot) -> SlotResult<()>
@@ -139,7 +148,7 @@ fn write_items<G: Generator>(g: &mut G, items: &[JsonValue], slot: &mut ErrorSlo
 }
 
 /// Asks for the order of the entries. Then writes `{}`, or the brackets of an object and its
-/// entries between them, in an indent of their own.
+/// entries between them, in an indent of their own. Not inlined, as `write_array` isn't.
 #[cycle(write_value)]
 #[inline(never)]
 pub(crate) fn write_pairs<G: Generator>(
@@ -162,7 +171,8 @@ pub(crate) fn write_pairs<G: Generator>(
     close(g, b'}', slot)
 }
 
-/// Writes each entry after whitespace, and a comma before each but the first.
+/// Writes each entry after whitespace, and a comma before each but the first, in the order that the
+/// hook `order` returned: `None` is the order of insertion.
 #[cycle(write_value)]
 fn write_members<G: Generator>(
     g: &mut G,
@@ -187,8 +197,8 @@ fn write_members<G: Generator>(
     Ok(())
 }
 
-/// The position that the order names at the index. `count`, the number of entries, is an argument
-/// only for the clauses.
+/// The position of the entry that is written after `index` others. `count`, the number of entries,
+/// is an argument only for the clauses.
 fn position_of(order: &Option<Vec<usize>>, index: usize, count: usize) -> usize
     requires index_in_range { index < length (positions count order.now) }
     ensures { result ≡ slice_index_or (positions count order.now) index 0 }
@@ -230,7 +240,8 @@ fn begin_item<G: Generator>(g: &mut G, comma: bool, slot: &mut ErrorSlot) -> Slo
     g.try_new_line(slot)
 }
 
-/// Closes an indent, and writes whitespace and the bracket.
+/// Closes an indent, and writes whitespace and the bracket. After an `Err` the indent is closed
+/// too.
 #[inline(always)]
 fn close<G: Generator>(g: &mut G, bracket: u8, slot: &mut ErrorSlot) -> SlotResult<()>
     requires { 0 < (G.meaning g.old).dent }

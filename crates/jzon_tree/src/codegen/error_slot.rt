@@ -1,7 +1,7 @@
 //! Keeps an 88-byte `io::Error` out of return values: it is stored in a slot, and a one-byte
-//! `Failed` is returned. In clauses, `Sends P before after result` says that a writer receives
-//! bytes that `P` allows at `Ok`, and a prefix of such bytes at `Err`; `Just bytes` allows these
-//! bytes alone.
+//! `Failed` is returned. In clauses, `W.contents writer` are the bytes that the writer has, if its
+//! contract says which. `Sends P before after result` says that a writer receives bytes that `P`
+//! allows at `Ok`, and a prefix of such bytes at `Err`; `Just bytes` allows these bytes alone.
 #![tactic(auto, using(crate::proofs::Printing::Appends::sent))]
 
 ghost use Rattle.std.specs.Prelude.{◌≡◌, ◌≤◌, Some, Ok, IfErr, IsErr, IsSome, OnOk, OnErr, MatchResult, length, drop};
@@ -20,7 +20,8 @@ pub struct Failed;
 /// The result of a call whose error is stored.
 pub type SlotResult<T> = Result<T, Failed>;
 
-/// Stores an error in the slot.
+/// Stores an error in the slot, and returns `Failed` for it. Returns the value of an `Ok`, and
+/// leaves the slot as it is.
 #[inline]
 pub(super) fn store<T>(answer: io::Result<T>, slot: &mut ErrorSlot) -> SlotResult<T>
     ensures answer { MatchResult answer (λ x. result ≡ Ok x) (λ _. IsErr result) }
@@ -36,7 +37,7 @@ pub(super) fn store<T>(answer: io::Result<T>, slot: &mut ErrorSlot) -> SlotResul
     }
 }
 
-/// The result with the stored error.
+/// The result with the stored error in place of `Failed`.
 #[inline]
 pub(super) fn take_result(step: SlotResult<()>, slot: ErrorSlot) -> io::Result<()>
     requires { OnErr step (IsSome slot) }
@@ -49,8 +50,9 @@ pub(super) fn take_result(step: SlotResult<()>, slot: ErrorSlot) -> io::Result<(
     }
 }
 
-/// Writes the bytes, of which a prefix is written if the writer fails. Most writers take them all
-/// at once. If there are no bytes, the writer isn't called: its 0 would count as an error.
+/// Writes the bytes, of which a prefix is written if the writer fails; its error is then in the
+/// slot. Most writers take all bytes at once. If there are none, the writer isn't called: its 0
+/// would count as an error.
 #[inline(always)]
 pub(super) fn send<W: Write>(writer: &mut W, bytes: &[u8], slot: &mut ErrorSlot) -> SlotResult<()>
     ensures bytes { Sends (Just bytes.now) (W.contents writer.old) (W.contents writer.new) result }
@@ -67,7 +69,8 @@ pub(super) fn send<W: Write>(writer: &mut W, bytes: &[u8], slot: &mut ErrorSlot)
     Ok(())
 }
 
-/// Writes the bytes after those that the writer took.
+/// Writes the bytes after the first `count`, which the writer took. Cold, because most writers take
+/// all at once. If the writer took none, the error is `WriteZero`.
 #[cold]
 #[inline(never)]
 fn send_rest<W: Write>(

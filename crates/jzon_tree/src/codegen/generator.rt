@@ -1,9 +1,19 @@
 //! The trait `Generator`: its hooks, and the provided methods.
 //!
 //! In clauses, `Emits P before after result` says that an `Ok` adds bytes that `P` allows, and that
-//! an `Err` adds a prefix of such bytes and counts a fault. `Just bytes` allows these bytes alone.
-//! The clause `writes_back` of `get_writer` says that once the returned reference is no longer
-//! used, the generator is what it was, with the writer as it is then.
+//! an `Err` adds a prefix of such bytes and counts a fault; `Added` and `Failed` are its parts for
+//! `Ok` and `Err`. `Counts` says only that an `Err` counts a fault, and `noted n` is `n` faults and
+//! one more. `Just bytes` allows these bytes alone, `IsForm` a colon in the form of the style, and
+//! `IsKey` a key and such a colon. `quoted` and `escaped` are a printed string with and without its
+//! quotes (34 is the byte of one), and `written_text` is a printed number. `IsAnswer style keys
+//! answer` says that this order has each position once and is allowed by the style. `contents` are
+//! the bytes of a writer, if its contract says which. The clause `writes_back` of `get_writer` says
+//! that once the returned reference is no longer used, the generator is what it was, with the
+//! writer as it is then.
+//!
+//! In bodies, `send` writes all bytes to a writer, or stores its error in the slot; `store` stores
+//! an error that a call returned; `take_result` returns the stored error. `plain_len` is the number
+//! of bytes before the first that needs an escape.
 
 ghost use Rattle.std.specs.Prelude.{◌≡◌, ◌+◌, ◌-◌, ◌<◌, ◌≤◌, ◌^◌, ◌∷◌, ◌++◌, [], length, take, drop, MatchResult, OnErr, IsSome};
 ghost use Rattle.std.specs.Borrow.{sem, Lends};
@@ -53,9 +63,9 @@ use std::io::{self, ErrorKind, Write};
 /// A generator has the bytes written so far, the number of open indents, the number of faults so
 /// far, and two things that no hook changes: a style, and the reference that is written through, if
 /// there is one. An `Ok` of a hook adds exactly the hook's bytes. An `Err` is the writer's, or of a
-/// hook of your own. It adds a prefix of the bytes, counts one fault (saturating at `u64::MAX`), and
-/// leaves the open indents. Where the contract of the writer doesn't fix its bytes, that of a hook
-/// doesn't either.
+/// hook of your own. It adds a prefix of the bytes, counts one fault (saturating at `u64::MAX`),
+/// and leaves the open indents. Where the contract of the writer doesn't fix its bytes, that of a
+/// hook doesn't either.
 pub trait Generator {
     /// The writer.
     type T: Write;
@@ -159,7 +169,8 @@ pub trait Generator {
         self.set_dent(dent - 1);
     }
 
-    /// Adds the string in quotes, escaped. The bytes go through `write` and `write_char`.
+    /// Adds the string in quotes, escaped. The bytes go through `write` and `write_char`. The bytes
+    /// before the first that needs an escape are added as they are.
     fn write_string(&mut self, string: &str) -> io::Result<()>
         ensures { Emits (Just (quoted string.now)) (meaning self.old) (meaning self.new) result }
     {
@@ -195,7 +206,7 @@ pub trait Generator {
 
     /// The order in which the entries of the object are written, as their positions, each exactly
     /// once; `None` is the order of insertion. It is an order that the style allows of the keys. No
-    /// byte is added.
+    /// byte is added. An `Err` counts a fault.
     fn order(&mut self, object: &Object) -> io::Result<Option<Vec<usize>>>
         ensures { MatchResult result
             (λ answer. Added (Just []) (meaning self.old) (meaning self.new)
@@ -203,7 +214,7 @@ pub trait Generator {
             (λ _. Failed (Just []) (meaning self.old) (meaning self.new)) };
 
     /// `write`, as `write_json` calls it: an error is stored in the slot. This hook and those below
-    /// are not for overriding: the types of the slot are private.
+    /// are not for overriding in other crates: the types of the slot are private.
     #[doc(hidden)]
     fn try_write(&mut self, slice: &[u8], slot: &mut ErrorSlot) -> SlotResult<()>
         ensures bytes { Emits (Just slice.now) (meaning self.old) (meaning self.new) result }
@@ -230,9 +241,9 @@ pub trait Generator {
         store(self.write_string(string), slot)
     }
 
-    /// Adds the prefix as it is (it begins with the opening quote), the text escaped, and the closing
-    /// quote, by `write` and `write_char`. Runs of bytes that need no escape are written whole. An
-    /// error is stored in the slot.
+    /// Adds the prefix as it is, the text escaped, and the closing quote, by `write` and
+    /// `write_char`. The prefix begins with the opening quote, unless this is written already. Runs
+    /// of bytes that need no escape are written whole. An error is stored in the slot.
     #[doc(hidden)]
     #[inline(never)]
     fn try_write_escaped(
@@ -254,6 +265,7 @@ pub trait Generator {
                 break;
             };
             let mut room = [0; ESCAPE_MAX_LEN];
+            // The escape is put at the end of `room`, from `at` on.
             let at = put_escape(&mut room, *byte);
             self.try_write(&room[at..], slot)?;
             rest = others;
@@ -261,8 +273,8 @@ pub trait Generator {
         self.try_write_char(b'"', slot)
     }
 
-    /// Adds a key in quotes and its colon, by `write_string` and `write_min`. It is one call, so that
-    /// a generator into memory can add both at once. An error is stored in the slot.
+    /// Adds a key in quotes and its colon, by `write_string` and `write_min`. It is one call, so
+    /// that a generator into memory can add both at once. An error is stored in the slot.
     #[doc(hidden)]
     fn try_write_key(&mut self, key: &str, slot: &mut ErrorSlot) -> SlotResult<()>
         ensures bytes { Emits (IsKey (meaning self.old).style key.now) (meaning self.old)

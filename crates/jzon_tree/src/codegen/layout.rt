@@ -1,7 +1,11 @@
 //! Layouts: the whitespace of a text, which is written here, and the order of an object's entries
-//! (docs/GENERATORS.md, "Layouts of one's own"). In clauses, `Sends P before after result` says
-//! that a writer receives bytes that `P` allows at `Ok`, and a prefix of such bytes at `Err`; `Just
-//! bytes` allows these bytes alone.
+//! (docs/GENERATORS.md, "Layouts of one's own").
+//!
+//! In clauses, `Sends P before after result` says that a writer receives bytes that `P` allows at
+//! `Ok`, and a prefix of such bytes at `Err`; `Just bytes` allows these bytes alone. `LaysOut style
+//! spaces` says that the style allows the whitespace and the colon that the method `spaces`
+//! selects, and `IsAnswer style keys order` that it allows this order of the keys, which has each
+//! position once. 10 is a newline, and 32 a space.
 
 ghost use Rattle.std.specs.Prelude.{◌≡◌, ◌+◌, ◌<◌, ◌∷◌, ◌++◌, Bool, true, false, IsTrue, IfOk, Ok, None, OnErr, IsSome, replicate};
 ghost use Rattle.jzon_base.specs.PairList.{keys_of};
@@ -16,13 +20,13 @@ use crate::object::Object;
 use std::alloc::AllocError;
 use std::io::Write;
 
-/// The most spaces that one write has.
+/// Spaces after the first 63 of a line; one write has at most 512 of them.
 const SPACES: [u8; 512] = [b' '; 512];
 
 /// How many bytes of a line's start are copied at once into memory.
 const LINE_ROOM: usize = 8;
 
-/// The newline, and the spaces that are written with it.
+/// The newline, and the 63 spaces that are written with it.
 const NEWLINE_AND_SPACES: [u8; 64] =
     *b"\n                                                               ";
 
@@ -140,8 +144,9 @@ impl Layout for Pretty {
     ghost style_law = { λ l. IsStyle-pretty l.0 };
 }
 
-/// Writes a newline and `spaces` spaces. Most lines begin with few, which are written with the
-/// newline.
+/// Writes a newline and `spaces` spaces. Most lines begin with few, of which up to 63 are written
+/// with the newline. An error is stored in the slot. `spaces` is an indent count, a `u64`, times a
+/// `u16`, so it needs a `u128`.
 #[inline(always)]
 pub(super) fn send_line<W: Write>(
     writer: &mut W,
@@ -171,6 +176,7 @@ pub fn push_line(bytes: &mut Vec<u8>, spaces: u128) -> bool
         return false;
     }
     let end = bytes.len() + (spaces as usize + 1);
+    // A fixed number of bytes is copied faster than the exact one. The surplus is cut off.
     let Ok(()) = bytes.extend_from_slice(&NEWLINE_AND_SPACES[..LINE_ROOM]) else {
         unreachable!()
     };
@@ -178,7 +184,8 @@ pub fn push_line(bytes: &mut Vec<u8>, spaces: u128) -> bool
     true
 }
 
-/// Writes `spaces` spaces.
+/// Writes `spaces` spaces, 512 at a time. Cold, because few lines begin with more than 63. An error
+/// is stored in the slot.
 #[cold]
 #[inline(never)]
 fn send_spaces<W: Write>(writer: &mut W, spaces: u128, slot: &mut ErrorSlot) -> SlotResult<()>

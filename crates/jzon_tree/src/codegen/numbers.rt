@@ -1,4 +1,5 @@
-//! The texts of numbers (docs/RULES.md, "Printed numbers").
+//! The texts of numbers (docs/RULES.md, "Printed numbers"). In clauses, `written_text n` is the
+//! printed number.
 
 ghost use Rattle.std.specs.Prelude.{◌≡◌, ◌++◌, IsTrue, false};
 ghost use Rattle.jzon_base.specs.NumberText.{written_text};
@@ -14,6 +15,7 @@ pub fn push_digits(bytes: &mut Vec<u8>, number: &Number) -> bool
     ensures done { IsTrue result → bytes.new.items ≡ bytes.old.items ++ written_text number.now }
     ensures left { result ≡ false → bytes.new.items ≡ bytes.old.items }
 {
+    // The parts of NaN have the mantissa 0 too, for which nothing is added.
     let (positive, mantissa, exponent) = number.as_parts();
     print_dec::push_digits(bytes, positive, mantissa, exponent)
 }

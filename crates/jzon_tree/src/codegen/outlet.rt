@@ -1,7 +1,11 @@
 //! Where a `TextGenerator` writes (docs/GENERATORS.md, "Layouts of one's own"). In clauses, `Adds
-//! (Just bytes) before after` says that these bytes are added, if the bytes before are known. The
-//! clause `writes_back` of `writer` says that once the returned reference is no longer used, the
-//! destination is what it was, with the writer as it is then.
+//! (Just bytes) before after` says that these bytes are added, if the bytes before are known.
+//! `contents` are the bytes of a writer and `out` those of a destination, if the writer's contract
+//! says which; `lender` names the reference that is written through. `quoted` is a printed string
+//! with its quotes, `written_text` a printed number, and `colon_text wide` a colon and, if `wide`,
+//! a space; 10 is a newline, and 32 a space. The clause `writes_back` of `writer` says that once
+//! the returned reference is no longer used, the destination is what it was, with the writer as it
+//! is then.
 
 ghost use Rattle.std.specs.Prelude.{◌≡◌, ◌++◌, ◌∷◌, ℕ, List, Option, None, Some, IsTrue, false, refl, replicate};
 ghost use Rattle.std.specs.Borrow.{GName, sem, Lends};
@@ -21,9 +25,9 @@ use std::io::Write;
 /// does, while it has room; for any other writer there is `write_layout`.
 ///
 /// `JsonValue::write_outlet` asks a hook first, and calls `Write::write` only if the hook returns
-/// `false`, which saves a buffer most of those calls (measured, not proved). A hook adds all that it
-/// names and returns `true`, or adds nothing and returns `false`, as the provided ones do. Over a
-/// vector, `push_short`, `push_digits` and `push_line` do so. No hook reports an error: what a
+/// `false`, which saves a buffer most of those calls (measured, not proved). A hook adds all that
+/// it names and returns `true`, or adds nothing and returns `false`, as the provided ones do. Over
+/// a vector, `push_short`, `push_digits` and `push_line` do so. No hook reports an error: what a
 /// writer can't take now is left to `write`.
 pub trait Outlet: Write {
     /// Adds the string in quotes, escaped, or nothing. Keys come here too.
@@ -91,7 +95,8 @@ pub trait Destination {
         false
     }
 
-    /// Adds the key in quotes, escaped, with its colon and, if `wide`, a space, or nothing.
+    /// Adds the key in quotes, escaped, with its colon and, if `wide`, a space, and returns `true`;
+    /// or adds nothing and returns `false`.
     #[inline(always)]
     fn put_key(&mut self, key: &[u8], wide: bool) -> bool
         ensures done { IsTrue result → Adds (Just (quoted key.now ++ colon_text wide))
@@ -130,7 +135,9 @@ pub trait Destination {
     ghost lender_law: { (o : Self) (w : Self.T) → lender (with_writer o w) ≡ lender o };
 }
 
-/// Memory of its own.
+/// Memory of its own. Each `put_..` calls `push_short`, `push_digits` or `push_line`, so it adds
+/// only what is short, and only if there is room. All else is left to `writer`, by which the vector
+/// grows.
 #[derive(Debug, Drop)]
 pub struct Memory {
     pub(super) bytes: Vec<u8>,
@@ -155,6 +162,7 @@ impl Destination for Memory {
     #[inline(always)]
     fn put_key(&mut self, key: &[u8], wide: bool) -> bool {
         let bytes = &mut self.bytes;
+        // There is room for what `push_short` adds at most, for the colon and for the space.
         if bytes.capacity() - bytes.len() < BY_ENDS_ROOM + 2 || !push_short(bytes, key) {
             return false;
         }
@@ -199,7 +207,7 @@ impl<'a, W: Write> Destination for &'a mut W {
     ghost lender_law = { λ _ _. refl };
 }
 
-/// A borrowed outlet.
+/// A borrowed outlet. An `Outlet` has no `put_key`, so keys come to its `put_string`.
 #[derive(Drop)]
 pub struct Through<'a, W> {
     pub(super) outlet: &'a mut W,

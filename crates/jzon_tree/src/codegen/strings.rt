@@ -1,4 +1,6 @@
-//! Strings and their escapes (docs/RULES.md, "Printed values").
+//! Strings and their escapes (docs/RULES.md, "Printed values"). In clauses, `quoted s` is the
+//! printed string with its quotes, `is_plain` holds of a byte that needs no escape, and
+//! `escaped_byte b` is the escape of a byte that needs one.
 
 ghost use Rattle.std.specs.Prelude.{◌≡◌, ◌+◌, ◌≤◌, ◌++◌, false, length, drop, IsTrue, vec_capacity, vec_len};
 ghost use Rattle.jzon_base.specs.Private.PlainBytes.{is_plain};
@@ -12,7 +14,7 @@ use std::simd::Simd;
 /// The length of the longest escape.
 pub(super) const ESCAPE_MAX_LEN: usize = 6;
 
-/// The most bytes of a string that is added by its first and last bytes.
+/// The most bytes of a string that is added by two copies, of its first and of its last bytes.
 const BY_ENDS_MAX_LEN: usize = 32;
 
 /// The room that such a string takes with its quotes, at most.
@@ -20,6 +22,7 @@ pub(super) const BY_ENDS_ROOM: usize = BY_ENDS_MAX_LEN + 2;
 
 /// For an outlet's `put_string`: adds a string of at most 32 bytes in quotes if it needs no escape
 /// and there is room for 34 bytes, and returns whether it did. Otherwise nothing is added.
+// By `len` and `capacity`, `put_key` of memory knows that there is still room for a colon.
 #[inline(always)]
 pub fn push_short(bytes: &mut Vec<u8>, string: &[u8]) -> bool
     ensures done { IsTrue result → bytes.new.items ≡ bytes.old.items ++ quoted string.now }
@@ -89,6 +92,7 @@ pub(super) fn put_escape(room: &mut [u8; ESCAPE_MAX_LEN], byte: u8) -> usize
     ensures start { result ≤ ESCAPE_MAX_LEN }
     ensures text { drop result room.new ≡ escaped_byte byte }
 {
+    // A simple escape, such as `\n`. Each other byte that needs an escape is below 32.
     if let Some(letter) = letter_of(byte) {
         *room = [0, 0, 0, 0, b'\\', letter];
         return 4;

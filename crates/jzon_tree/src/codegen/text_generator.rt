@@ -5,11 +5,16 @@
 //! of its destination, its indents and faults, the style of its layout, and the reference that it
 //! writes through. `fresh out style lender` is such a state without an indent or a fault. `Emits`
 //! says what a hook adds, as in `generator`; `Added` and `Failed` are its parts for `Ok` and `Err`.
-//! `IsAnswer style keys answer` says that the style allows this order of the keys.
+//! `Counts` says that an error is counted as a fault, and nothing else changes. `Just bytes` allows
+//! these bytes alone, and `written_text` is a printed number. `IsAnswer style keys answer` says
+//! that the style allows this order of the keys. `⟦<T as Generator>⟧.meaning` is the ghost member
+//! `meaning` that `T` has as a `Generator`.
 //!
 //! A hook `try_..` does what the hook of that name does, and stores an error in the slot
-//! (`error_slot`). The contracts of all hooks are in `generator`. A `put_..` of the destination
-//! adds all and returns `true`, or adds nothing and returns `false`.
+//! (`error_slot`). The hooks `write_..` and `new_line` call it with a slot of their own, and
+//! `take_result` returns the stored error. The contracts of the hooks are in `generator`; `order`
+//! has more clauses here. A `put_..` of the destination adds all and returns `true`, or adds
+//! nothing and returns `false`; then the bytes go to the destination's writer, by `send`.
 
 ghost use Rattle.std.specs.Prelude.{◌≡◌, [], Ok, None, Some, IsSome, IsTrue, IsUtf8, IfErr, IfOk, MatchResult, OnErr, string_bytes};
 ghost use Rattle.std.specs.IoError.{error_kind};
@@ -35,7 +40,8 @@ use std::io::{self, ErrorKind, Write};
 const FIRST_ROOM: usize = 1024;
 
 /// Writes text in a layout, to memory, a writer or an outlet. `in_memory` and `to_writer` make one;
-/// `consume` returns the text that is in memory.
+/// `consume` returns the text that is in memory. `dent` is the number of open indents, and `faults`
+/// the number of errors that were counted.
 #[derive(Debug, Drop)]
 pub struct TextGenerator<P: Destination, L: Layout> {
     pub(super) place: P,
@@ -71,8 +77,8 @@ impl<P: Destination, L: Layout> TextGenerator<P, L> {
         step
     }
 
-    /// Writes a number whose exponent isn't 0. It is a function of its own, so that
-    /// `try_write_number` saves no registers for an integer.
+    /// Writes a number; it is called for an exponent other than 0. It is a function of its own, so
+    /// that `try_write_number` saves no registers for an integer.
     #[inline(never)]
     fn write_decimal(&mut self, num: &Number, slot: &mut ErrorSlot) -> SlotResult<()>
         ensures bytes { Emits (Just (written_text num.now))
@@ -86,7 +92,8 @@ impl<P: Destination, L: Layout> TextGenerator<P, L> {
         self.write_number_text(num, slot)
     }
 
-    /// Writes a number that isn't put at once, in a function of its own as `write_decimal` is.
+    /// Writes a number that the destination didn't put. It is a function of its own for the same
+    /// reason as `write_decimal`.
     #[inline(never)]
     fn write_number_text(&mut self, num: &Number, slot: &mut ErrorSlot) -> SlotResult<()>
         ensures bytes { Emits (Just (written_text num.now))
@@ -116,6 +123,7 @@ impl<P: Destination, L: Layout> Generator for TextGenerator<P, L> {
 
     fn write_min(&mut self, slice: &[u8], min: u8) -> io::Result<()> {
         let mut slot = None;
+        // A layout with lines has a space after the colon.
         let step = if self.layout.spaces().is_some() {
             self.try_write(slice, &mut slot)
         } else {
@@ -160,7 +168,8 @@ impl<P: Destination, L: Layout> Generator for TextGenerator<P, L> {
 
     /// What the layout's `order` returns: the positions of the entries as they are to be written,
     /// or `None` for the order of insertion. If the layout always returns `None` (`keeps_order`),
-    /// nothing of the generator changes.
+    /// nothing of the generator changes. An error of the layout is counted as a fault, and returned
+    /// as one of the kind `OutOfMemory`.
     #[inline(always)]
     fn order(&mut self, object: &Object) -> io::Result<Option<Vec<usize>>>
         ensures answer { MatchResult result
@@ -212,7 +221,7 @@ impl<P: Destination, L: Layout> Generator for TextGenerator<P, L> {
     }
 
     fn try_write_number(&mut self, num: &Number, slot: &mut ErrorSlot) -> SlotResult<()> {
-        // `write_decimal` does what follows, in a function of its own.
+        // For an exponent other than 0 `write_decimal` does what follows here.
         if num.as_parts().2 != 0 {
             return self.write_decimal(num, slot);
         }
@@ -224,6 +233,7 @@ impl<P: Destination, L: Layout> Generator for TextGenerator<P, L> {
 
     #[inline(always)]
     fn try_new_line(&mut self, slot: &mut ErrorSlot) -> SlotResult<()> {
+        // A layout without lines has no whitespace.
         let Some(spaces) = self.layout.spaces() else {
             return Ok(());
         };
@@ -282,7 +292,7 @@ impl<L: Layout> TextGenerator<Memory, L> {
 
 impl<L: Layout + Drop> TextGenerator<Memory, L> {
     /// A generator of this layout that has written nothing, with room for 1,024 bytes, so that a
-    /// small text needs one allocation. The error is a failed one.
+    /// small text needs one allocation. The error is a failed allocation.
     pub(crate) fn with_room(
         alloc: Global,
         layout: L,
@@ -295,7 +305,7 @@ impl<L: Layout + Drop> TextGenerator<Memory, L> {
     }
 
     /// The bytes that were written, as a string. It allocates nothing, and fails with
-    /// `FailedUtf8Parsing` exactly if they are not UTF-8.
+    /// `FailedUtf8Parsing` exactly if they are not UTF-8. The clause `IsConsumed` says this.
     pub fn consume(self) -> Result<String>
         ensures { IsConsumed (⟦<TextGenerator<Memory, L> as Generator>⟧.meaning self).out result }
     {
@@ -360,8 +370,8 @@ impl<'a, W: Outlet, L: Layout> TextGenerator<Through<'a, W>, L> {
         TextGenerator::over(Through { outlet }, layout)
     }
 
-    /// Ends the generator and returns its outlet: a caller's clause can then speak of the bytes
-    /// that the outlet has.
+    /// Ends the generator and returns the reference to its outlet that `to_outlet` took. A caller's
+    /// clause can then speak of the bytes that the outlet has.
     pub(crate) fn into_outlet(self) -> &'a mut W
     where
         L: Drop,
