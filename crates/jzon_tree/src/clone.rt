@@ -1,7 +1,7 @@
 //! Copies of values and of objects: `clone(alloc)`, and std's `Clone` for `derive(Clone)` and for
 //! `clone` of lists. In clauses, `view` gives what a value means, and `view_object` what an object
 //! means. `copy_fields` is a fast copy: of a `Number` not by way of the stack, and of a `Short`
-//! without a call.
+//! without a call. Functions that call one another have the same `#[cycle(..)]`.
 #![tactic(auto, using(crate::proofs::Values::Views::views))]
 
 ghost use Rattle.std.specs.Prelude.{◌≡◌, ◌+◌, ◌<◌, ◌++◌, ◌∷◌, [], map, true, false, IfOk, IsOkUnless, vec_len, vec_capacity};

@@ -5,7 +5,8 @@
 //!
 //! In clauses, `displayed v` is what is shown of the value `v`, `compact v` is its compact text,
 //! and `quoted s` is a string in quotes, escaped. `view`, `view_object` and `view_values` give what
-//! a value, an object and values mean.
+//! a value, an object and values mean. Functions that call one another have the same
+//! `#[cycle(..)]`.
 
 ghost use Rattle.std.specs.Prelude.{Some};
 ghost use Rattle.std.specs.Fmt.{WritesOnOk};

@@ -1,5 +1,6 @@
 //! Goes over a value or an object, and calls the hooks of a generator. A hook whose name begins
 //! with `try_` stores its error in the slot (`error_slot`); `store` does so for the other hooks.
+//! Functions that call one another have the same `#[cycle(..)]`.
 //!
 //! In clauses, `G.meaning g` is the state of the generator `g`: its bytes, its style, the number of
 //! its open indents (`dent`) and the number of its faults, which are errors that it counted.
@@ -7,11 +8,11 @@
 //! allows; an `Err` adds a prefix of such bytes, and counts a fault. `Prints` says so of a call of
 //! several hooks; an `Err` of it may leave more indents open.
 //!
-//! `view v` is what a value means, and `view_object` and the like say so of an object and so on.
-//! `Writes style dent v` holds of each text of `v` that the style allows inside of `dent` indents.
-//! `IsValue v` says what the types of its parts promise: numbers in range, strings of UTF-8,
-//! distinct keys. `AreValues` says so of elements, and `ArePairs` and `IsPair` of the keys and
-//! values of entries and of one entry.
+//! `view v` is what the value `v` means. `view_object` is the same for an object, `view_values` for
+//! elements, `view_pairs` and `viewed` for entries. `Writes style dent v` holds of each text of `v`
+//! that the style allows inside of `dent` indents. `IsValue v` says what the types of its parts
+//! promise: numbers in range, strings of UTF-8, distinct keys. `AreValues` says so of elements, and
+//! `ArePairs` and `IsPair` of the keys and values of entries and of one entry.
 //!
 //! `PrintsIf K` promises something of an `Err` only if `K` holds, and `PrintsValue v` is `PrintsIf
 //! (IsValue v)` for the writings of `v`: a part of `v` isn't read after an error, so the proof

@@ -3,13 +3,13 @@
 //! In clauses, `Emits P before after result` says that an `Ok` adds bytes that `P` allows, and that
 //! an `Err` adds a prefix of such bytes and counts a fault; `Added` and `Failed` are its parts for
 //! `Ok` and `Err`. `Counts` says only that an `Err` counts a fault, and `noted n` is `n` faults and
-//! one more. `Just bytes` allows these bytes alone, `IsForm` a colon in the form of the style, and
-//! `IsKey` a key and such a colon. `quoted` and `escaped` are a printed string with and without its
-//! quotes (34 is the byte of one), and `written_text` is a printed number. `IsAnswer style keys
-//! answer` says that this order has each position once and is allowed by the style. `contents` are
-//! the bytes of a writer, if its contract says which. The clause `writes_back` of `get_writer` says
-//! that once the returned reference is no longer used, the generator is what it was, with the
-//! writer as it is then.
+//! one more, at most `u64::MAX`. `Just bytes` allows these bytes alone, `IsForm` a colon in the
+//! form of the style, and `IsKey` a key and such a colon. `quoted` and `escaped` are a printed
+//! string with and without its quotes (34 is the byte of one), and `written_text` is a printed
+//! number. `IsAnswer style keys answer` says that this order has each position once and is allowed
+//! by the style. `contents` are the bytes of a writer, if its contract says which. The clause
+//! `writes_back` of `get_writer` says that once the returned reference is no longer used, the
+//! generator is what it was, with the writer as it is then.
 //!
 //! In bodies, `send` writes all bytes to a writer, or stores its error in the slot; `store` stores
 //! an error that a call returned; `take_result` returns the stored error. `plain_len` is the number
