@@ -1,7 +1,7 @@
 //! `Display` of a value (docs/RULES.md, "Layouts"). It writes to the formatter as it goes, and
 //! allocates nothing. The clause `WritesOnOk .. before result text after` says that an `Ok` wrote
-//! `text` to the formatter, if this is as for `{}`; after an `Err` nothing is promised of what was
-//! written.
+//! `text`, if the formatter has no options, as for `{}`; after an `Err` nothing is promised of what
+//! was written.
 //!
 //! In clauses, `displayed v` is what is shown of the value `v`, `compact v` is its compact text,
 //! and `quoted s` is a string in quotes, escaped. `view`, `view_object` and `view_values` give what
