@@ -1,16 +1,17 @@
 //! The open containers of a text. All their keys are on one stack, and all their values on another;
 //! each container has a part of both, and is made of it at its end.
 //!
-//! A clause sees a list of containers, each with its kind, keys and values. `AwaitsValue kind c`
-//! says that the last key of an object has no value yet, and `HasAllValues kind c` that each key
-//! has one; both hold of an array, which has no keys. `whole c` is the value of the container if it
-//! ends now, and `new_container kind` a container with nothing in it. `entries_so_far c` are the
-//! entries of an object, without a key whose value is still to come. `put_each ps` are the entries
-//! `ps` put into an object one after the other. `value_added s v`, `key_added s k` and
-//! `container_added s kind` are the stacks `s` with one more value, key or container in the
-//! innermost one, and `innermost_ended s` those with nothing in it. `IsAdded s v t` says that `t`
-//! has the containers around the innermost one of `s`, and the value `v` added to the last of them;
-//! `IsClosed s t` says so of the value of the innermost one.
+//! A clause sees whether the reading is `strict`, the `innermost` container and the list of those
+//! `around` it, each with its kind, keys and values. `AwaitsValue kind c` says that the last key of
+//! an object has no value yet, and `HasAllValues kind c` that each key has one; both hold of an
+//! array, which has no keys. `whole c` is the value of the container if it ends now, and
+//! `new_container kind` a container with nothing in it. `entries_so_far c` are the entries of an
+//! object, without a key whose value is still to come. `put_each ps` are the entries `ps` put into
+//! an object one after the other. `value_added s v`, `key_added s k` and `container_added s kind`
+//! are the stacks `s` with one more value, key or container in the innermost one, and
+//! `innermost_ended s` those with nothing in it. `IsAdded s v t` says that `t` has the containers
+//! around the innermost one of `s`, and the value `v` added to the last of them; `IsClosed s t`
+//! says so of the value of the innermost one.
 
 ghost use Rattle.std.specs.Prelude.{◌≡◌, ◌≢◌, ◌&&◌, if◌then◌else◌, slice_index, IfSome, None, Some, ◌≤◌, ◌<◌, [], ◌∷◌, ◌++◌, length, take, drop, vec_len, vec_capacity, IfOk, OnOk, OnErr, MatchOption, true, ◌+◌};
 ghost use Rattle.std.specs.List.{zip};

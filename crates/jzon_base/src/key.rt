@@ -55,9 +55,9 @@ impl Key {
     }
 
     /// Appends the key with this text, with which `wide` begins, to `keys`. It is made there, so
-    /// that it isn't moved. A text of up to 32 bytes is copied with 32 bytes of `wide` at once, if
-    /// `wide` can be cut there, which is faster. The error is a failed allocation, and then no key
-    /// is appended.
+    /// that it isn't moved. For a text of up to 32 bytes, if `wide` can be cut after 32 bytes,
+    /// these are copied at once, which is faster, and the copy is cut to the text. The error is a
+    /// failed allocation, and then no key is appended.
     #[doc(hidden)]
     #[inline(always)]
     pub fn push_wide(

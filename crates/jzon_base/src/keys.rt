@@ -224,6 +224,7 @@ impl Keys {
         ensures merged { IfOk result (λ r. zip r.0 r.1.items
             ≡ put_each (zip keys.items values.items)) }
     {
+        // `entries::of` returns `None` if a key repeats.
         if LINEAR_MAX < keys.len()
             && let Some(entries) = entries::of(alloc, keys.as_slice())?
         {

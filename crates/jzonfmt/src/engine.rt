@@ -278,8 +278,8 @@ fn options_of(words: &[String]) -> Option<Options>
     Some(Options { reading, layout })
 }
 
-/// Whether `--strict` is the first argument, or the last of three, after `--pretty N`; and the
-/// other arguments. `asking strict layout` are the options of this reading and this layout.
+/// Whether `--strict` is the first argument, or the last of three; and the other arguments, which
+/// `layout_of` judges. `asking strict layout` are the options of this reading and this layout.
 fn split_strict(words: &[String]) -> (bool, &[String])
     ensures { asked_options (map string_bytes words.now)
         ≡ option_map (asking result.0) (asked_layout (map string_bytes result.1.now)) }

@@ -2,9 +2,10 @@
 //! reading asks this before it adds a key.
 //!
 //! Up to 32 keys have a filter, and more have another one, which grows: keys are compared only if a
-//! filter says that one may repeat. For the keys of usual texts it is seldom wrong. If it is wrong
-//! 64 times in one size, the keys get an index, as in `Keys`: so n keys take about n (log n)^2
-//! comparisons, whatever the keys are.
+//! filter says that one may repeat. For the keys of usual texts it is seldom wrong. Each time the
+//! filter of many keys says so, all hashes are scanned; `scans_left` counts this down from 64, and
+//! begins anew when the filter grows. At 0 the keys get an index, as in `Keys`: so n keys take
+//! about n (log n)^2 comparisons, whatever the keys are.
 ghost use Rattle.std.specs.Prelude.{◌≡◌, ◌++◌, ◌∷◌, [], true, false, is_some, IfOk, OnErr};
 ghost use Rattle.std.specs.List.{position};
 ghost use Rattle.std.specs.Str.{bytes_eq};
@@ -97,7 +98,8 @@ impl KnownKeys {
             }
             KnownKeys::Many(many) => {
                 if many.scans_left == 0 {
-                    // The filter was wrong too often: from here on an index finds the keys.
+                    // The filter was wrong too often: from here on an index finds the keys. It is
+                    // empty here; `add_entry` fills it with the entries of all keys.
                     let mut index = Box::new(alloc, Runs::new(alloc))?;
                     let known = has_or_indexes(alloc, keys, &mut index, name)?;
                     *self = KnownKeys::Indexed(index);

@@ -3,9 +3,9 @@
 //! its hash and a test of bits; the entries are sorted once, when the keys get their index.
 //!
 //! In clauses, `HasHash words hash` says that the bits of a hash are set. `KnowsMany keys words
-//! entries` says that the keys are distinct, that the entries are theirs, and that the bits of all
-//! are set; `IsTable keys index` says that they are distinct, and that the index has their entries
-//! or none.
+//! entries` says that the keys are distinct, that the entries are theirs, that the filter has at
+//! least one word, and that the bits of all keys are set; `IsTable keys index` says that they are
+//! distinct, and that the index has their entries or none.
 ghost use Rattle.std.specs.Prelude.{◌≡◌, ◌<◌, ◌==◌, ◌++◌, ◌∷◌, [], true, false, is_some, length, IfOk, OnErr, ℕ};
 ghost use Rattle.std.specs.List.{list_any, position, All, IsDistinct};
 ghost use Rattle.std.specs.Str.{bytes_eq};

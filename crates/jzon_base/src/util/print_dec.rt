@@ -30,8 +30,8 @@ pub const MAX_LEN: usize = 29;
 /// The most digits that `push_digits` adds after a point: they are moved at once.
 const PLACES: usize = 16;
 
-/// The room that `push_digits` needs: a sign, 19 digits, and the 17 bytes to which a point and the
-/// digits after it are moved. Three stores fill it.
+/// The room that `push_digits` needs, which three stores of 16 bytes fill: for a sign, up to 19
+/// digits before the point, and the 17 bytes to which a point and the digits after it are moved.
 const DIGITS_ROOM: usize = 48;
 
 type NumberText = ArrayString<MAX_LEN>;

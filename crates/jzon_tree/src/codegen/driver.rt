@@ -60,7 +60,8 @@ pub fn write_json<G: Generator>(g: &mut G, json: &JsonValue) -> io::Result<()>
     let mut slot = None;
     let step = write_value(g, json, &mut slot);
     if step.is_err() {
-        // Both clauses speak of the whole value, also of the parts that weren't written.
+        // Both clauses speak of the whole value, also of the parts that weren't written. `inspect`
+        // ensures that it is one (`IsValue`).
         let _found = inspect(json);
     }
     take_result(step, slot)
@@ -76,7 +77,7 @@ pub fn write_object<G: Generator>(g: &mut G, object: &Object) -> io::Result<()>
     let mut slot = None;
     let step = write_pairs(g, object, &mut slot);
     if step.is_err() {
-        // As in `write_json`.
+        // As in `write_json`: `inspect_object` ensures that all its values are values (`IsValue`).
         let _found = inspect_object(object);
     }
     take_result(step, slot)

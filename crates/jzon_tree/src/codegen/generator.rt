@@ -83,8 +83,8 @@ pub trait Generator {
             (with_writer self.old)) }
         ensures bytes { Self.T.contents result.now ≡ (meaning self.old).out };
 
-    /// Adds `slice`, which is a colon and a space, or the one byte `min`, which is a colon, as the
-    /// style allows.
+    /// Adds `slice` if the style allows a space after a colon, or the byte `min` if it allows a
+    /// bare colon. The crate's calls pass `": "` and `':'`; the contract speaks of any bytes.
     fn write_min(&mut self, slice: &[u8], min: u8) -> io::Result<()>
         ensures { Emits (IsForm (meaning self.old).style slice.now min)
             (meaning self.old) (meaning self.new) result };

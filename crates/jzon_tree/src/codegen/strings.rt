@@ -69,7 +69,7 @@ fn put_if_plain(bytes: &mut [u8], offset: usize, string: &[u8]) -> bool
 }
 
 /// Puts a string of `N` to `2 * N` bytes if it needs no escape: the first `N` and the last `N`,
-/// which may overlap. `M` is `2 * N`.
+/// which may overlap. `M` is `2 * N`. All other bytes stay.
 #[inline(always)]
 fn put_ends<const N: usize, const M: usize>(bytes: &mut [u8], at: usize, string: &[u8]) -> bool
     requires lanes { (M ≤ 32) × (M ≡ N + N) }

@@ -10,11 +10,11 @@
 //! that the style allows this order of the keys. `⟦<T as Generator>⟧.meaning` is the ghost member
 //! `meaning` that `T` has as a `Generator`.
 //!
-//! A hook `try_..` does what the hook of that name does, and stores an error in the slot
-//! (`error_slot`). The hooks `write_..` and `new_line` call it with a slot of their own, and
-//! `take_result` returns the stored error. The contracts of the hooks are in `generator`; `order`
-//! has more clauses here. A `put_..` of the destination adds all and returns `true`, or adds
-//! nothing and returns `false`; then the bytes go to the destination's writer, by `send`.
+//! A hook `try_..` stores an error in the slot (`error_slot`). If there is a hook of the name after
+//! `try_`, it calls this one with a slot of its own, and `take_result` returns the stored error.
+//! The contracts of the hooks are in `generator`; `order` has more clauses here. A `put_..` of the
+//! destination adds all and returns `true`, or adds nothing and returns `false`; then the bytes go
+//! to the destination's writer, by `send`.
 
 ghost use Rattle.std.specs.Prelude.{◌≡◌, [], Ok, None, Some, IsSome, IsTrue, IsUtf8, IfErr, IfOk, MatchResult, OnErr, string_bytes};
 ghost use Rattle.std.specs.IoError.{error_kind};
@@ -123,7 +123,8 @@ impl<P: Destination, L: Layout> Generator for TextGenerator<P, L> {
 
     fn write_min(&mut self, slice: &[u8], min: u8) -> io::Result<()> {
         let mut slot = None;
-        // A layout with lines has a space after the colon.
+        // `slice` is a colon and a space, and `min` the colon alone. A layout with lines has the
+        // space.
         let step = if self.layout.spaces().is_some() {
             self.try_write(slice, &mut slot)
         } else {

@@ -4,8 +4,10 @@
 //! `object (pairs_of ..)` and `array (values_of ..)` are the object and the array of a list. `find
 //! k entries` is the value of the key `k`, and `put k v entries` are the entries with this value,
 //! at the key's position or else last. `with_place null items index` are the elements once there is
-//! one for the index, as `at_index_mut` adds it, and `place_in items index` is the position of this
-//! one. A clause `present` says that only a call for a missing key or element can fail.
+//! one for the index: past the end one null is appended, and a value that isn't an array becomes
+//! `[null]` for index 0 and `[null,null]` for any other. `place_in items index` is the position of
+//! this element, or of the last null. A clause `present` says that only a call for a missing key or
+//! element can fail.
 //!
 //! A function `.._in` does the same for any type of the trait `Tree`, whose nodes are its values:
 //! `T.pairs` are the entries of an object, `T.object` is the object of some entries, `T.items` are
@@ -48,9 +50,11 @@ pub fn write_at(value: &mut JsonValue, alloc: Global, key: &str, item: JsonValue
     write_at_in(value, alloc, key, item)
 }
 
-/// Writes the element of an array at an index, as through `at_index_mut`. Fails with `OutOfMemory`
-/// only, and then the value is equal to the one before; an index that is in the range of an array
-/// needs no allocation.
+/// Writes the element of an array at an index, as through `at_index_mut`. Past the end, `item` is
+/// appended, whatever the index. A value that isn't an array first becomes `[null]` for index 0 and
+/// `[null,null]` for any other, and the last element is written. Fails with `OutOfMemory` only, and
+/// then the value is equal to the one before; an index that is in the range of an array needs no
+/// allocation.
 pub fn write_at_index(
     value: &mut JsonValue,
     alloc: Global,

@@ -3,9 +3,10 @@
 //!
 //! In clauses, `view` is the value as plain data, and `compact v` and `pretty v spaces 0` are texts
 //! of such data. `Writes style 0 v` holds of each text of `v` that the style allows. The 0 is the
-//! number of containers around `v`. `nest v` is the depth of `v`: how many non-empty containers
-//! nest in it. `IsValue v` says what the types of its parts promise: numbers in range, strings of
-//! UTF-8, distinct keys. The laws on reading back need this, so calls that print ensure it.
+//! number of containers around `v`. The compact style and each pretty style allow one text of a
+//! value. `nest v` is the depth of `v`: how many non-empty containers nest in it. `IsValue v` says
+//! what the types of its parts promise: numbers in range, strings of UTF-8, distinct keys. The laws
+//! on reading back need this, so calls that print ensure it.
 //!
 //! `W.contents writer` are the bytes that the writer holds, if they are known. `Appends before
 //! after bytes` says that these bytes were added, and `AppendsBeginning` that a prefix of them was.
