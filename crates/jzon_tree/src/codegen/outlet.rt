@@ -7,7 +7,7 @@
 //! the returned reference is no longer used, the destination is what it was, with the writer as it
 //! is then.
 
-ghost use Rattle.std.specs.Prelude.{◌≡◌, ◌++◌, ◌∷◌, ℕ, List, Option, None, Some, IsTrue, false, refl, replicate};
+ghost use Rattle.std.specs.Prelude.{◌≡◌, ◌++◌, ◌∷◌, [], ℕ, List, Option, None, Some, IsTrue, false, refl, replicate};
 ghost use Rattle.std.specs.Borrow.{GName, sem, Lends};
 ghost use Rattle.jzon_base.specs.NumberText.{written_text};
 ghost use Rattle.jzon_tree.specs.Generator.{Adds, Just};
@@ -84,6 +84,16 @@ pub trait Destination {
             (with_writer self.old)) }
         ensures bytes { Self.T.contents result.now ≡ out self.old };
 
+    /// Adds the byte, or nothing.
+    #[inline(always)]
+    fn put_byte(&mut self, byte: u8) -> bool
+        ensures done { IsTrue result → Adds (Just (byte ∷ [])) (out self.old) (out self.new) }
+        ensures left { result ≡ false → out self.new ≡ out self.old }
+        ensures lender { lender self.new ≡ lender self.old }
+    {
+        false
+    }
+
     /// As `Outlet::put_string`.
     #[inline(always)]
     fn put_string(&mut self, string: &[u8]) -> bool
@@ -135,7 +145,8 @@ pub trait Destination {
     ghost lender_law: { (o : Self) (w : Self.T) → lender (with_writer o w) ≡ lender o };
 }
 
-/// Memory of its own. Each `put_..` calls `push_short`, `push_digits` or `push_line`, so it adds
+/// Memory of its own. `put_byte` adds a byte if there is room; it stores less of the vector than
+/// `write` does. Each other `put_..` calls `push_short`, `push_digits` or `push_line`, so it adds
 /// only what is short, and only if there is room. All else is left to `writer`, by which the vector
 /// grows.
 #[derive(Debug, Drop)]
@@ -152,6 +163,15 @@ impl Destination for Memory {
 
     fn writer(&mut self) -> &mut Vec<u8> {
         &mut self.bytes
+    }
+
+    #[inline(always)]
+    fn put_byte(&mut self, byte: u8) -> bool {
+        if self.bytes.len() == self.bytes.capacity() {
+            return false;
+        }
+        self.bytes.push_reserved(byte);
+        true
     }
 
     #[inline(always)]

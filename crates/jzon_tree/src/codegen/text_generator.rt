@@ -200,6 +200,9 @@ impl<P: Destination, L: Layout> Generator for TextGenerator<P, L> {
 
     #[inline(always)]
     fn try_write_char(&mut self, ch: u8, slot: &mut ErrorSlot) -> SlotResult<()> {
+        if self.place.put_byte(ch) {
+            return Ok(());
+        }
         self.try_write(&[ch], slot)
     }
 
