@@ -20,6 +20,9 @@ ROOM = pathlib.Path(tempfile.gettempdir(), "jzon-bench")
 # A run that takes more processor time is ended, and its side left out.
 SECONDS_MAX = 60
 CALLGRIND = ["valgrind", "--tool=callgrind", "--callgrind-out-file=/dev/null"]
+# Callgrind counts each byte that `rep movsb` copies or `rep stosb` fills as an instruction. With these thresholds glibc
+# uses loops of 32 bytes or more instead.
+NO_REP = ":".join(f"glibc.cpu.x86_rep_{name}_threshold={2 ** 63 - 1}" for name in ("movsb", "stosb"))
 
 
 def options(doc, words, *flags, **numbers):
@@ -38,10 +41,11 @@ class Run:
     """One run of a program: its status, what it printed on standard error, its processor time in seconds or its
     instructions, and its peak memory in kilobytes, which is None if it is below that of this process."""
 
-    def __init__(self, words, source=os.devnull, target=os.devnull, counts=False):
+    def __init__(self, words, source=os.devnull, target=os.devnull, counts=False, tunables=""):
+        env = {**os.environ, "GLIBC_TUNABLES": tunables} if tunables else None
         with open(source, "rb") as given, open(target, "wb") as taken:
             child = subprocess.Popen(
-                [*CALLGRIND * counts, *words], stdin=given, stdout=taken, stderr=subprocess.PIPE, text=True,
+                [*CALLGRIND * counts, *words], stdin=given, stdout=taken, stderr=subprocess.PIPE, env=env, text=True,
                 errors="replace"
             )
         resource.prlimit(child.pid, resource.RLIMIT_CPU, (SECONDS_MAX * (20 if counts else 1),) * 2)
@@ -65,14 +69,16 @@ def measured(sides, given, repeats=0):
     counts; instructions are counted once. A cost is None if the side failed or has no such call, or if its time is lost
     in that of a run without calls."""
     runs, costs, peaks, said = collections.defaultdict(list), [], [], set()
+    # Whether a call copies a long block depends on the blocks that the calls before it freed.
+    tunables = NO_REP if given.instructions and repeats else ""
     for number in range(1 if given.instructions else given.rounds):
         for at, (words, path) in sorted(enumerate(sides), reverse=number % 2 == 0):
             for calls in (repeats, 0) if repeats else (0,):
-                run = Run([*words, *[str(calls)] * bool(repeats)], path, counts=given.instructions)
+                run = Run([*words, *[str(calls)] * bool(repeats)], path, counts=given.instructions, tunables=tunables)
                 runs[at, calls] += [run] * (run.status == 0)
     for at in range(len(sides)):
         full, empty = (min((run.cost for run in runs[at, calls]), default=0) for calls in (repeats, 0))
-        cost = full - empty * bool(repeats)
+        cost = full - empty * bool(repeats) if empty else 0
         costs.append(cost / max(1, repeats) if cost > (0 if given.instructions else full / 50) else None)
         peaks.append(runs[at, repeats][-1].peak if runs[at, repeats] else None)
         said.update(run.said for run in runs[at, repeats])
