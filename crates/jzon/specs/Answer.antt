@@ -12,7 +12,7 @@ use Rattle.jzon.specs.Grammar.{Document}
 use Rattle.jzon.specs.Meaning.{meaning}
 use Rattle.jzon.specs.Fault.{Parses, IsErrorOf}
 
--- a tree that breaks no limit spells the text, and the value is its meaning, part for part
+-- the value is the meaning, part for part, of a tree that spells the text and breaks no limit
 abbrev pub IsMeaningOf : Reading → List ℕ → JsonValue → Type 0
 IsMeaningOf r t v = (d : Document) × Parses r t d × (view v ≡ meaning d.node)
 

@@ -12,6 +12,7 @@ use Rattle.jzon.specs.Reading.{Reading}
 
 -- ---- trees
 
+-- the sign of an exponent, which may be left out
 pub data Sign : Type 0 where
   unsigned : Sign
   plus : Sign
@@ -64,6 +65,7 @@ mutual
     no_elements : Elements
     element : List ℕ → Node → List ℕ → Elements → Elements
 
+  -- what follows an entry of an object: its closing bracket, or a comma and one more entry
   pub data Members : Type 0 where
     no_members : Members
     member : Key → List ℕ → Node → List ℕ → Members → Members
@@ -81,9 +83,11 @@ abbrev pub Each : (ℕ → Bool) → List ℕ → Type 0
 Each test [] = ⊤
 Each test (c ∷ cs) = IsTrue (test c) × Each test cs
 
+-- each character is whitespace in this reading
 abbrev pub IsWhitespace : Reading → List ℕ → Type 0
 IsWhitespace r = Each (is_whitespace r.strict)
 
+-- each character is a digit
 abbrev pub AreDigits : List ℕ → Type 0
 AreDigits = Each is_ascii_digit
 
@@ -98,13 +102,16 @@ IsWhole [] = ⊥
 IsWhole (d ∷ []) = IsTrue (is_ascii_digit d)
 IsWhole (d ∷ e ∷ ds) = IsTrue (is_ascii_digit d && not (d == zero_digit)) × AreDigits (e ∷ ds)
 
+-- `e` or `E`
 abbrev pub is_exponent_letter : ℕ → Bool
 is_exponent_letter c = c == 101 || c == 69
 
+-- there is none, or it has its letter and a digit or more
 abbrev pub IsExponent : Option Exponent → Type 0
 IsExponent None = ⊤
 IsExponent (Some e) = IsTrue (is_exponent_letter e.letter) × IsDigits e.digits
 
+-- a number as the grammar has it
 abbrev pub IsNumeral : Numeral → Type 0
 IsNumeral n = IsWhole n.whole × AreDigits n.fraction × IsExponent n.exponent
 
@@ -119,13 +126,15 @@ AreHex (suc n) (c ∷ cs) = IsTrue (is_ascii_hexdigit c) × AreHex n cs
 unfoldable pub code_unit : List ℕ → ℕ
 code_unit cs = fold (λ n c. n * 16 + digit_value c) 0 cs
 
--- the surrogates of UTF-16: a high one begins a surrogate pair and a low one ends it
+-- the code units of UTF-16 that begin a surrogate pair
 abbrev pub is_high : ℕ → Bool
 is_high u = nat_le 0xD800 u && nat_lt u 0xDC00
 
+-- those that end one
 abbrev pub is_low : ℕ → Bool
 is_low u = nat_le 0xDC00 u && nat_lt u 0xE000
 
+-- both
 abbrev pub is_surrogate : ℕ → Bool
 is_surrogate u = nat_le 0xD800 u && nat_lt u 0xE000
 
@@ -133,20 +142,24 @@ is_surrogate u = nat_le 0xD800 u && nat_lt u 0xE000
 abbrev pub is_unescaped : ℕ → Bool
 is_unescaped c = (scalar c && nat_le 32 c) && not (c == quotation_mark || c == escape)
 
+-- a part of a string as the grammar has it; two surrogates needn't be a pair
 abbrev pub IsItem : Item → Type 0
 IsItem (plain c) = IsTrue (is_unescaped c)
 IsItem (simple c) = IsTrue (is_simple c)
 IsItem (single u) = AreHex 4 u × (is_surrogate (code_unit u) ≡ false)
 IsItem (double u v) = AreHex 4 u × IsTrue (is_surrogate (code_unit u)) × AreHex 4 v
 
+-- each part of a string is as the grammar has it
 abbrev pub AreItems : List Item → Type 0
 AreItems [] = ⊤
 AreItems (i ∷ is) = IsItem i × AreItems is
 
+-- a key, with the whitespace around it, as the grammar has it
 abbrev pub IsKey : Reading → Key → Type 0
 IsKey r k = IsWhitespace r k.before × AreItems k.items × IsWhitespace r k.after
 
 abbrev mutual
+  -- a value as the grammar has it
   pub IsNode : Reading → Node → Type 0
   IsNode r Node.null = ⊤
   IsNode r (Node.boolean b) = ⊤
@@ -157,13 +170,16 @@ abbrev mutual
   IsNode r (Node.array b n c es) = IsWhitespace r b × IsNode r n × IsWhitespace r c × AreElements r es
   IsNode r (Node.object k b n c ms) = IsKey r k × IsWhitespace r b × IsNode r n × IsWhitespace r c × AreMembers r ms
 
+  -- the remaining elements of an array
   pub AreElements : Reading → Elements → Type 0
   AreElements r no_elements = ⊤
   AreElements r (element b n c es) = IsWhitespace r b × IsNode r n × IsWhitespace r c × AreElements r es
 
+  -- the remaining entries of an object
   pub AreMembers : Reading → Members → Type 0
   AreMembers r no_members = ⊤
   AreMembers r (member k b n c ms) = IsKey r k × IsWhitespace r b × IsNode r n × IsWhitespace r c × AreMembers r ms
 
+-- a text as the grammar has it; it may exceed limits
 abbrev pub IsDocument : Reading → Document → Type 0
 IsDocument r d = IsWhitespace r d.before × IsNode r d.node × IsWhitespace r d.after

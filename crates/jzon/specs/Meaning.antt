@@ -13,15 +13,18 @@ use Rattle.jzon.specs.Grammar.{member}
 
 -- ---- numbers
 
+-- the exponent of a sign and a magnitude
 abbrev pub signed_exponent : Sign → ℕ → ℤ
 signed_exponent unsigned n = pos n
 signed_exponent plus n = pos n
 signed_exponent minus n = neg_ℤ (pos n)
 
+-- the exponent as it is written; 0 if there is none
 abbrev pub written_exponent : Option Exponent → ℤ
 written_exponent None = pos 0
 written_exponent (Some e) = signed_exponent e.sign (digits_number e.digits)
 
+-- the number that a numeral means
 abbrev pub number_of : Numeral → Decimal
 number_of n = read_number (not n.negative) n.whole n.fraction (written_exponent n.exponent)
 
@@ -35,6 +38,7 @@ pair_char high low = 0x10000 + (high - 0xD800) * 0x400 + (low - 0xDC00)
 abbrev pub is_pair : List ℕ → List ℕ → Bool
 is_pair u v = is_high (code_unit u) && is_low (code_unit v)
 
+-- the characters that a part of a string means; none for two surrogates that aren't a pair
 abbrev pub item_text : Item → List ℕ
 item_text (plain c) = c ∷ []
 item_text (simple l) = unescaped l ∷ []
@@ -53,6 +57,7 @@ bytes_of is = encode_utf8_all (characters_of is)
 -- ---- values
 
 abbrev mutual
+  -- the value that a tree means
   pub meaning : Node → Value
   meaning Node.null = null
   meaning (Node.boolean b) = boolean b
@@ -64,6 +69,7 @@ abbrev mutual
   meaning (Node.object key b n c ms) = object (pairs_of (put_each
       ((bytes_of key.items, meaning n) ∷ members_meaning ms)))
 
+  -- the values that the remaining elements mean
   pub elements_meaning : Elements → Values
   elements_meaning no_elements = no_values
   elements_meaning (element b n c es) = value (meaning n) (elements_meaning es)

@@ -1,5 +1,4 @@
-//! Which bytes are at an offset of a text. In clauses, `slice_index bytes i` is the byte at `i`,
-//! and 0 past the end.
+//! Which bytes are at an offset of a text.
 
 ghost use Rattle.std.specs.Prelude.{◌≡◌, ◌<◌, ◌≤◌, ◌+◌, ◌↔◌, length, IsTrue, slice_index};
 

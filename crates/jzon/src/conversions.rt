@@ -1,11 +1,4 @@
 //! Converts types that are `IntoJson` into values and texts (docs/RULES.md, "Conversions").
-//!
-//! In clauses, `view` is the plain data for which a `JsonValue` stands. `T.means x v` says that `x`
-//! converts into the value `v`, and `T.is_free x` that this never fails. `IsValue v` says that a
-//! program can hold `v`. `compact v` and `pretty v spaces 0` are its texts, inside 0 containers;
-//! `Writes style 0 v bytes` says that the style allows these bytes as a text of `v`.
-//! `IsTextRefusal (T.means x)` holds of `OutOfMemory`, and of `ExceededDepthLimit` if `x` means a
-//! value of a depth of 2^64 or more.
 
 ghost use Rattle.std.specs.Prelude.{◌≡◌, IfOk, IfErr, IsOk, IsOkUnless, string_bytes};
 ghost use Rattle.jzon_tree.specs.IntoJson.{IsTextRefusal};

@@ -1,12 +1,8 @@
 //! Laws on texts, their trees and their values, for every reading: RFC 8259 with the project's own
 //! rules (`crates/jzon/CALLING.md`, "Laws"). These functions do nothing; each law is a function's
 //! contract. Call one in a function, as `laws::reads_back()`, to have its law as a fact in the
-//! proof of that function, by the name `c.reads_back.ensures`. CALLING.md, "How a law is called",
-//! has the lemmas that most callers need instead. A program needs none of them.
-//!
-//! A *tree* has every detail of a text, even its whitespace: it spells this text, and means a
-//! value. A *breach* is a limit that is exceeded at a character, and a *fault* an offset at which
-//! the text goes wrong, with the reason. A *style* says which writings of a value are allowed.
+//! proof of that function, by the name `c.reads_back.ensures`; most callers need the lemmas of
+//! CALLING.md, "How a law is called", instead. A program needs none of them.
 
 ghost use Rattle.jzon.specs.Laws.{OneReading, OneText, DigitBreaches, OneFault, NumberText, Redump, StrictStyles, ReadsBack};
 

@@ -1,11 +1,6 @@
 //! Macros that write a value in the form of its text (docs/RULES.md, "Conversions"). They pass the
 //! value from call to call, so a function that builds one holds nothing of it to drop when a call
 //! fails, and is cheaper to prove.
-//!
-//! In clauses, `T.means item v` says that `item` converts into the value `v`. `with_item v w` is
-//! the array `w` with `v` after its last element, and `with_entry k v w` the object `w` with the
-//! value `v` under the key `k`. `IsRefusal b kind e` says that the error `e` is `OutOfMemory` or,
-//! if `b` is false, `WrongType` with this kind.
 
 ghost use Rattle.std.specs.Prelude.{◌≡◌, true, IfOk, IfErr, OnOk, codes};
 ghost use Rattle.jzon_tree.specs.Changers.{IsRefusal, with_item, with_entry};
@@ -18,8 +13,7 @@ use jzon_tree::into_json::IntoJson;
 use jzon_tree::value::JsonValue;
 use std::alloc::Global;
 
-/// Appends an element to the array and returns the array. Fails as `push` does; the array is then
-/// dropped. Called by the code of `array!`.
+/// `push`, but the array is passed on: for the code of `array!`. After an error it is dropped.
 #[doc(hidden)]
 pub fn with_item<T: IntoJson>(alloc: Global, mut array: JsonValue, item: T) -> Result<JsonValue>
     ensures ok { IfOk result
@@ -31,8 +25,7 @@ pub fn with_item<T: IntoJson>(alloc: Global, mut array: JsonValue, item: T) -> R
     Ok(array)
 }
 
-/// Sets an entry of the object as `insert` does, and returns the object. Fails as `insert` does;
-/// the object is then dropped. Called by the code of `object!`.
+/// `insert`, but the object is passed on: for the code of `object!`. After an error it is dropped.
 #[doc(hidden)]
 pub fn with_entry<T: IntoJson>(
     alloc: Global,
@@ -123,7 +116,6 @@ macro_rules! source {
     };
 }
 
-/// Pushes the elements of `array!`.
 #[doc(hidden)]
 #[macro_export]
 macro_rules! push_items {
@@ -140,7 +132,6 @@ macro_rules! push_items {
     };
 }
 
-/// Inserts the entries of `object!`.
 #[doc(hidden)]
 #[macro_export]
 macro_rules! insert_pairs {

@@ -1,8 +1,5 @@
-//! Whitespace (RFC 8259, section 2; docs/RULES.md, "Texts"). In clauses, `from r bytes p i` is the
-//! outcome of the automaton (docs/ARCHITECTURE.md) that starts in the state `p` at byte `i`, under
-//! the reading `r`, and `allows_whitespace p` says that whitespace may be read in the state `p`.
-//! `is_whitespace strict` holds of the bytes that are whitespace; if `strict`, only of the four of
-//! RFC 8259.
+//! Whitespace (RFC 8259, section 2; docs/RULES.md, "Texts"). Most often there is none or one space;
+//! longer whitespace is compared in blocks.
 
 ghost use Rattle.std.specs.Prelude.{◌≡◌, IsTrue, ◌<◌, ◌≤◌, ◌+◌, drop, length, true, false, slice_index};
 ghost use Rattle.std.specs.Int.{w64, trailing_zeros};
@@ -15,7 +12,7 @@ use crate::bytes_at::has_byte;
 use crate::reading::Reading;
 use std::simd::prelude::*;
 
-/// The bytes that are compared at once.
+/// How many bytes are compared at once.
 const LANES: usize = 16;
 
 /// The offset after the whitespace at `start`. Most often there is none, or one space, so these are
@@ -73,8 +70,7 @@ fn whitespace_length(bytes: &[u8], strict: bool) -> usize
 }
 
 /// Which of the `LANES` bytes at `start` are other bytes than tabs, newlines, carriage returns and
-/// spaces (`is_whitespace true`), a bit for each. The clauses say that no byte is another if no bit
-/// is set, and else that the lowest bit that is set is that of the first other byte.
+/// spaces (`is_whitespace true`), a bit for each, the first byte's lowest.
 #[inline(always)]
 fn others_in_lanes(bytes: &[u8], start: usize) -> u64
     requires { start + LANES ≤ length bytes.now }
@@ -100,8 +96,6 @@ fn whitespace_by_bytes(bytes: &[u8], strict: bool) -> usize
         .count()
 }
 
-/// Whether the byte is whitespace: tab, newline, carriage return or space; if not `strict`,
-/// vertical tab and form feed too.
 fn is_whitespace(byte: u8, strict: bool) -> bool
     ensures { result ≡ is_whitespace strict byte }
 {

@@ -16,6 +16,7 @@ abbrev pub parts_of : Decimal → Bool × ℕ × ℤ
 parts_of nan = (false, 0, pos 0)
 parts_of (parts positive m e) = (positive, m, e)
 
+-- whether it is NaN
 abbrev pub is_nan : Decimal → Bool
 is_nan nan = true
 is_nan (parts positive m e) = false
@@ -40,7 +41,7 @@ abbrev pub shifted : ℤ → ℕ
 shifted (pos n) = 32768 + n
 shifted (negsuc n) = 32767 - n
 
--- m * 10 ^ (e + 32768)
+-- m * 10 ^ (e + 32768): an integer for each exponent of 16 bits, by which two decimals are compared exactly
 unfoldable pub scaled : ℕ → ℤ → ℕ
 scaled m e = m * 10 ^ shifted e
 
@@ -59,7 +60,7 @@ pub record IsStripped (m : ℕ) (e : ℤ) (n : ℕ) (f : ℤ) : Type 0 where
   pub not_past : (f ≡ e) ⊎ (f ≤ℤ pos 0)
   pub no_zero : f <ℤ pos 0 → n % 10 ≢ 0
 
--- the parts of the number are this sign, and m and e with trailing zeros stripped
+-- the number has this sign, and m and e with the trailing zeros of m stripped while e is negative
 abbrev pub StripsTo : Bool → ℕ → ℤ → Decimal → Type 0
 StripsTo positive m e nan = ⊥
 StripsTo positive m e (parts q n f) = (q ≡ positive) × IsStripped m e n f
@@ -81,7 +82,7 @@ abbrev pub integer_of : Decimal → Option ℤ
 integer_of nan = None
 integer_of (parts positive m e) = if int_eq e (pos 0) then Some (signed positive m) else None
 
--- the integer that the decimal is written as, if the sign is positive (-0 has none)
+-- the integer that a number is written as, if its exponent is 0 and its sign is positive (-0 has none)
 abbrev pub unsigned_of : Decimal → Option ℕ
 unsigned_of nan = None
 unsigned_of (parts true m e) = if int_eq e (pos 0) then Some m else None
@@ -107,7 +108,7 @@ abbrev pub fixed_point : Decimal → ℕ → Option ℤ
 fixed_point nan point = None
 fixed_point (parts positive m e) point = Some (signed positive (whole_part m (e +ℤ pos point)))
 
--- the whole part of the decimal times a power of ten, if the sign is positive
+-- the fixed-point reading without a sign: none for a negative sign, even of -0
 abbrev pub unsigned_fixed_point : Decimal → ℕ → Option ℕ
 unsigned_fixed_point nan point = None
 unsigned_fixed_point (parts true m e) point = Some (whole_part m (e +ℤ pos point))
@@ -118,23 +119,25 @@ abbrev pub is_whole : ℕ → ℤ → Bool
 is_whole m (pos k) = true
 is_whole m (negsuc k) = m % 10 ^ (k + 1) == 0
 
--- mantissa * 10 ^ (exponent + point) is a whole number
+-- mantissa * 10 ^ (exponent + point) is a whole number: the fixed-point reading at this point loses no digit but zeros
 abbrev pub is_whole_at : Decimal → ℕ → Bool
 is_whole_at nan point = false
 is_whole_at (parts positive m e) point = is_whole m (e +ℤ pos point)
 
--- the fixed-point readings that lose no digit
+-- the fixed-point reading, if it loses no digit but zeros
 abbrev pub exact_fixed_point : Decimal → ℕ → Option ℤ
 exact_fixed_point d point = if is_whole_at d point then fixed_point d point else None
 
+-- the fixed-point reading without a sign, if it loses no digit but zeros
 abbrev pub exact_unsigned_fixed_point : Decimal → ℕ → Option ℕ
 exact_unsigned_fixed_point d point = if is_whole_at d point then unsigned_fixed_point d point else None
 
--- n * 10 ^ (0 - point)
+-- the number n * 10 ^ -point
 abbrev pub integer_at : ℤ → ℕ → Decimal
 integer_at (pos n) point = parts true n (neg_ℤ (pos point))
 integer_at (negsuc n) point = parts false (suc n) (neg_ℤ (pos point))
 
--- the value read at the point is the number itself
+-- the integer that is read at the point, divided by 10 ^ point again, is the number itself (its exponent fits in 16
+-- bits if the point is at most 32768)
 abbrev pub IsExactAt : Decimal → ℕ → Type 0
 IsExactAt d point = point ≤ 32768 → (n : ℤ) → fixed_point d point ≡ Some n → IsTrue (same d (integer_at n point))

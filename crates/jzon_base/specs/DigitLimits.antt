@@ -19,5 +19,6 @@ pub record IsLongestPrefix (ds : List ℕ) (k : ℕ) : Type 0 where
   pub fits : digits_number (take k ds) < 2 ^ 64
   pub longest : (n : ℕ) → k < n → n ≤ length ds → 2 ^ 64 ≤ digits_number (take n ds)
 
+-- of any digits, the kept ones are the longest prefix that spells a number below 2 ^ 64
 abbrev pub KeepsLongestPrefix : Type 0
 KeepsLongestPrefix = (ds : List ℕ) → IsLongestPrefix ds (kept_len ds)

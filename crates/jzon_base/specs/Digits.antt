@@ -39,10 +39,11 @@ kept_len ds = longest_up_to (length ds) ds
 abbrev pub kept : List ℕ → List ℕ
 kept ds = take (kept_len ds) ds
 
--- how many of the digits before the point are dropped, and how many after it are kept
+-- how many of the digits before the point are dropped
 abbrev pub dropped : List ℕ → List ℕ → ℕ
 dropped whole fraction = length whole - kept_len (whole ++ fraction)
 
+-- how many of the digits after the point are kept
 abbrev pub kept_fraction : List ℕ → List ℕ → ℕ
 kept_fraction whole fraction = kept_len (whole ++ fraction) - length whole
 

@@ -7,12 +7,12 @@ use Rattle.std.specs.declared.alloc.Global.{Global}
 use Rattle.std.specs.declared.boxed.Box.{Box}
 pub use Rattle.std.specs.Map.{keys_of, values_of}
 
--- the value at k, or none
+-- the value of the entry with key k, or none
 abbrev pub find : {V : Type 0} → List ℕ → List (List ℕ × V) → Option V
 find k [] = None
 find k (p ∷ ps) = if bytes_eq p.0 k then Some p.1 else find k ps
 
--- the entry (k, v): at the position of k if it is present, else last
+-- the entries with (k, v) put in: at the position of k, whose value is replaced, or last if k is missing
 abbrev pub put : {V : Type 0} → List ℕ → V → List (List ℕ × V) → List (List ℕ × V)
 put k v [] = (k, v) ∷ []
 put k v (p ∷ ps) = if bytes_eq p.0 k then (p.0, v) ∷ ps else p ∷ put k v ps
@@ -22,18 +22,18 @@ put k v (p ∷ ps) = if bytes_eq p.0 k then (p.0, v) ∷ ps else p ∷ put k v p
 abbrev pub put_each : {V : Type 0} → List (List ℕ × V) → List (List ℕ × V)
 put_each ps = fold (λ qs p. put p.0 p.1 qs) [] ps
 
--- without the entry of k; the others keep their order
+-- the entries without that of k; the others keep their order
 abbrev pub cut : {V : Type 0} → List ℕ → List (List ℕ × V) → List (List ℕ × V)
 cut k [] = []
 cut k (p ∷ ps) = if bytes_eq p.0 k then ps else p ∷ cut k ps
 
--- v as the value at position i
+-- the entries with v as the value at position i
 abbrev pub set_value : {V : Type 0} → List (List ℕ × V) → ℕ → V → List (List ℕ × V)
 set_value [] i v = []
 set_value (p ∷ ps) zero v = (p.0, v) ∷ ps
 set_value (p ∷ ps) (suc i) v = p ∷ set_value ps i v
 
--- the entry (k, v) last, if k is missing
+-- the entries with (k, v) last, if k is missing; else as they are
 abbrev pub with_default : {V : Type 0} → List ℕ → V → List (List ℕ × V) → List (List ℕ × V)
 with_default k v [] = (k, v) ∷ []
 with_default k v (p ∷ ps) = if bytes_eq p.0 k then p ∷ ps else p ∷ with_default k v ps

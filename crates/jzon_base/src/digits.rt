@@ -1,15 +1,8 @@
 //! The digits of a number in a text, and the number that they mean (RFC 8259, section 6;
-//! docs/RULES.md, "What digits mean" and "Digit limits").
-//!
-//! Take the digits before the point and those after it as one list. Its longest prefix that spells
-//! a number below 2^64 is kept: it is the mantissa. The digits after this prefix are dropped.
-//!
-//! In clauses, `digits_number ds` is the number that the digits `ds` spell, and `fold add_digit n
-//! ds` the number `n` with these digits after its own. `kept ds` are the kept digits, `dropped` is
-//! how many digits before the point are dropped, and `kept_fraction` how many after it are kept.
-//! `AreFewEnough` says that these two are at most 32767 and 32768, and `IsFirstTooMany` that a
-//! `DigitFault` is the first digit beyond. `signed positive n` is `n` or `-n`, `clamp` the nearest
-//! `i16`, and `read_number` the number with the kept digits and the clamped exponent.
+//! docs/RULES.md, "What digits mean" and "Digit limits"). Take the digits before the point and
+//! those after it as one list. Its longest prefix that spells a number below 2^64 is kept: it is
+//! the mantissa. The digits after this prefix are dropped. `scan` reads eight digits at once; only
+//! numbers of more than `ALWAYS_KEPT` digits are read once more, digit by digit.
 
 ghost use Rattle.std.specs.Prelude.{◌≡◌, ℕ, pos, ◌+◌, ◌%◌, ◌<◌, ◌≤◌, ◌^◌, ◌-ℤ◌, ◌+ℤ◌, ◌++◌, length, take, min, IfErr, OkIff};
 ghost use Rattle.std.specs.Char.{is_ascii_digit};
@@ -40,9 +33,9 @@ const MAX_WRITTEN: u32 = 65536;
 /// The digit that exceeds a limit, by its position among the digits before or after the point.
 #[derive(Clone, Copy, Debug, PartialEq, Eq)]
 pub enum DigitFault {
-    /// The 32768th digit before the point that is dropped.
+    /// Before the point: the first digit that is dropped beyond `MAX_DROPPED`.
     Whole(usize),
-    /// The 32769th digit after the point that is kept.
+    /// After the point: the first digit that is kept beyond `MAX_KEPT_FRACTION`.
     Fraction(usize),
 }
 
@@ -74,8 +67,8 @@ pub fn read_scanned(
         return Ok(Number::from_parts_unchecked(positive, number, exponent));
     }
     let (number, dropped, kept_fraction) = kept_prefix(whole, fraction);
-    // The first digit that is too many: before the point it follows the kept digits and 32767
-    // dropped ones, and after the point 32768 kept ones.
+    // The first digit that is too many: before the point it follows the kept digits and
+    // `MAX_DROPPED` dropped ones, and after the point `MAX_KEPT_FRACTION` kept ones.
     if dropped > MAX_DROPPED {
         return Err(DigitFault::Whole(whole.len() - dropped + MAX_DROPPED));
     }
@@ -109,7 +102,7 @@ pub fn scan(bytes: &[u8], before: u64) -> (usize, u64)
     (len + count, number)
 }
 
-/// Does what `scan` does, one byte at a time.
+/// `scan`, one byte at a time.
 fn scan_by_bytes(bytes: &[u8], before: u64) -> (usize, u64)
     ensures count { result.0 ≡ prefix_len is_ascii_digit bytes.now }
     ensures number { (n : ℕ) → before ≡ n % 2 ^ 64
@@ -145,7 +138,7 @@ fn kept_prefix(whole: &[u8], fraction: &[u8]) -> (u64, usize, usize)
 }
 
 /// Appends digits to `before` as long as the number stays below 2^64. Returns this number, and how
-/// many digits were appended. Cold, because only numbers of more than 19 digits need it.
+/// many digits were appended. Cold, because only numbers of more than `ALWAYS_KEPT` digits need it.
 #[cold]
 #[inline(never)]
 fn longest_prefix(before: u64, digits: &[u8]) -> (u64, usize)

@@ -1,8 +1,5 @@
 //! A key of an object: text that is stored inline if it is short (docs/RULES.md, "Short and long
 //! strings").
-//!
-//! In clauses, `key_bytes` are the bytes of a key, wherever they are stored. By the ghost member
-//! `eq`, `==` is the equality of bytes, `bytes_eq`; `laws` proves that it is an equivalence.
 ghost use Rattle.std.specs.Prelude.{◌≡◌, ◌<◌, ◌≤◌, ◌++◌, ◌∷◌, List, ℕ, [], length, take, string_bytes, IfOk, IsOkUnless, OnErr, OnOk};
 ghost use Rattle.std.specs.Str.{bytes_eq};
 ghost use Rattle.jzon_base.specs.Key.{key_bytes};
@@ -19,9 +16,8 @@ use std::marker::Model;
 /// The most bytes of text that is stored inline.
 const INLINE_MAX: usize = 32;
 
-/// A key of an object. In clauses a key is its bytes.
-///
-/// Text of up to 32 bytes is stored inline, longer text in an allocated `String`.
+/// A key of an object. Text of up to `INLINE_MAX` bytes is stored inline, longer text in an
+/// allocated `String`.
 #[derive(Drop)]
 pub struct Key {
     text: Text,
@@ -40,8 +36,7 @@ impl Model for Key {
 }
 
 impl Key {
-    /// The key with this text. Text of up to 32 bytes allocates nothing; for longer text the error
-    /// is a failed allocation.
+    /// The key with this text. Text of up to `INLINE_MAX` bytes allocates nothing.
     pub fn new(alloc: Global, text: &str) -> Result<Key, AllocError>
         ensures bytes { IfOk result (λ k. k ≡ text.now) }
         ensures long { OnErr result (32 < length text.now) }
@@ -55,9 +50,8 @@ impl Key {
     }
 
     /// Appends the key with this text, with which `wide` begins, to `keys`. It is made there, so
-    /// that it isn't moved. For a text of up to 32 bytes, if `wide` can be cut after 32 bytes,
-    /// these are copied at once, which is faster, and the copy is cut to the text. The error is a
-    /// failed allocation, and then no key is appended.
+    /// that it isn't moved. If `wide` can be cut after `INLINE_MAX` bytes, these are copied at
+    /// once, which is faster, and the copy is cut to the text. After an error no key is appended.
     #[doc(hidden)]
     #[inline(always)]
     pub fn push_wide(
@@ -81,8 +75,8 @@ impl Key {
         Ok(())
     }
 
-    /// A copy. Text of up to 32 bytes allocates nothing; for longer text the error is a failed
-    /// allocation. Inlined, so that a copy is made where it stays.
+    /// A copy. Text of up to `INLINE_MAX` bytes allocates nothing. Inlined, so that a copy is made
+    /// where it stays.
     #[inline(always)]
     pub fn clone(&self, alloc: Global) -> Result<Key, AllocError>
         ensures bytes { IfOk result (λ k. k ≡ self.now) }
@@ -106,8 +100,8 @@ impl Key {
         }
     }
 
-    /// The text as a `String`. Only text of up to 32 bytes, which was stored inline, is allocated
-    /// here. Fails with `OutOfMemory` only.
+    /// The text as a `String`. Only text that was stored inline is allocated here. Fails with
+    /// `OutOfMemory` only.
     pub fn into_string(self, alloc: Global) -> error::Result<String>
         ensures bytes { IfOk result (λ s. string_bytes s ≡ self) }
         ensures short { OnErr result (length self ≤ 32) }
@@ -120,7 +114,6 @@ impl Key {
     }
 }
 
-/// Keys are equal if their bytes are.
 impl PartialEq for Key {
     ghost eq = { bytes_eq };
 
@@ -135,7 +128,7 @@ impl Eq for Key {
     ghost laws = { nat_list_eq_equiv };
 }
 
-/// The text as std's `str` shows it: in quotes, with escapes.
+/// As std's `str`: in quotes, with escapes.
 impl fmt::Debug for Key {
     fn fmt<W: fmt::Write>(&self, f: &mut fmt::Formatter<W>) -> fmt::Result {
         fmt::Debug::fmt(self.as_str(), f)

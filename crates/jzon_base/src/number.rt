@@ -1,11 +1,6 @@
-//! Numbers: exact decimals, and NaN (docs/RULES.md, "Numbers").
-//!
-//! In clauses a number is `nan`, or `parts` of three things: whether the sign is positive, the
-//! mantissa, and the exponent. `parts_of` are these three, and `(false, 0, 0)` for NaN; `same` is
-//! the equality of numbers, `negated n` is `-n`, and `decimal_text` is the text that `Display`
-//! prints. `StripsTo positive m e n` says that `n` has this sign, and `m` and `e` with trailing
-//! zeros of `m` stripped while `e` is negative. The ghost members `neg_gives`, `eq` and `output`
-//! say what `-`, `==` and `Display` do; `laws` proves that `==` is an equivalence.
+//! Numbers: exact decimals, and NaN (docs/RULES.md, "Numbers"). Two numbers are equal if their
+//! exact decimals are: the mantissa of the higher exponent is scaled to the lower one, without
+//! rounding.
 
 ghost use Rattle.std.specs.Prelude.{◌≡◌, ◌*◌, ◌^◌, ◌<◌, ◌≤◌, ◌==◌, ◌||◌, MatchOption, Some};
 ghost use Rattle.std.specs.Cmp.{partial_equiv_from_equiv};
@@ -223,8 +218,7 @@ impl fmt::Display for Number {
 }
 
 /// Whether two numbers of one sign, neither 0, with these mantissas and exponents are equal: that
-/// of the higher exponent is scaled down to the lower one. In clauses, `scaled m e` is an integer
-/// for each exponent: `m * 10 ^ (e + 32768)`.
+/// of the higher exponent is scaled to the lower one.
 #[tactic(auto, using(crate::proofs::Numbers::Scaling::same_rules))]
 fn same_magnitude(mantissa: u64, exponent: i16, other_mantissa: u64, other_exponent: i16) -> bool
     requires left { 0 < mantissa }

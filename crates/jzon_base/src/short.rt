@@ -1,6 +1,4 @@
-//! Short strings, stored inline (docs/RULES.md, "Short and long strings"). In clauses a `Short` is
-//! its bytes, and `bytes_eq` is the equality of bytes: by the ghost member `eq`, `==` is this.
-//! `laws` proves that it is an equivalence, and `output` is the text that `Display` prints.
+//! Short strings, stored inline (docs/RULES.md, "Short and long strings").
 
 ghost use Rattle.std.specs.Prelude.{◌≡◌, ◌≤◌, List, ℕ, length, take, IfOk, IsOkUnless, IsUtf8, Some, string_bytes};
 ghost use Rattle.std.specs.Cmp.{partial_equiv_from_equiv};
@@ -19,7 +17,7 @@ use std::marker::Model;
 pub const MAX_LEN: usize = 30;
 
 /// A string of at most `MAX_LEN` bytes of UTF-8, stored in the value itself, so that it allocates
-/// nothing. `Short::from_slice(short.as_str())` is a copy. In clauses it is its bytes.
+/// nothing. `Short::from_slice(short.as_str())` is a copy.
 #[derive(Drop)]
 pub struct Short {
     text: ArrayString<MAX_LEN>,
@@ -41,8 +39,9 @@ impl Short {
         Short { text }
     }
 
-    /// A copy of the string, with which `wide` begins. If `wide` can be cut after 30 bytes, these
-    /// are copied at once, which is faster than `from_slice`, and the copy is cut to the string.
+    /// A copy of the string, with which `wide` begins. If `wide` can be cut after `MAX_LEN` bytes,
+    /// these are copied at once, which is faster than `from_slice`, and the copy is cut to the
+    /// string.
     #[doc(hidden)]
     #[inline(always)]
     pub fn from_wide(slice: &str, wide: &str) -> Short
@@ -88,7 +87,6 @@ impl Short {
     }
 }
 
-/// Short strings are equal if their bytes are.
 impl PartialEq for Short {
     ghost eq = { bytes_eq };
 
@@ -103,7 +101,7 @@ impl Eq for Short {
     ghost laws = { nat_list_eq_equiv };
 }
 
-/// The string as std's `str` shows it: in quotes, with escapes.
+/// As std's `str`: in quotes, with escapes.
 impl fmt::Debug for Short {
     fn fmt<W: fmt::Write>(&self, f: &mut fmt::Formatter<W>) -> fmt::Result {
         fmt::Debug::fmt(&self.as_str(), f)

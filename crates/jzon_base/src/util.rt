@@ -1,8 +1,4 @@
 //! What the crates share: the write loop, the text of a number, escapes, and runs of plain bytes.
-//!
-//! In clauses, `W.contents writer` are the bytes that a writer holds, if they are known. `Appends
-//! before after bytes` says that after the call they are those before it and then `bytes`;
-//! `AppendsBeginning` says so of a prefix of `bytes`.
 
 ghost use Rattle.std.specs.Prelude.{OnOk, OnErr};
 ghost use Rattle.std.specs.Io.KnownBytes.{Appends};

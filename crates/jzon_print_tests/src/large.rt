@@ -12,8 +12,7 @@ use jzon_test_support::{joined, keys_by_hash, object_text};
 use std::alloc::{AllocError, Global};
 use std::collections::{BTreeMap, HashMap};
 
-/// More than the 1,024 up to which an index has its room in advance, and at which a repeated key is
-/// looked for again.
+/// More than the 1,024 up to which an index has its room in advance.
 const COUNT: u32 = 1100;
 
 /// More than 16 bits can count.

@@ -12,27 +12,27 @@ abbrev pub is_short : Value → Bool
 is_short (text short s) = true
 is_short _ = false
 
--- null for a string, and every other value as it is
+-- null for a string, and any other value as it is
 abbrev pub without_text : Value → Value
 without_text (text k s) = null
 without_text v = v
 
--- an array without its element i; unchanged if i is past its end
+-- an array without its element i; as it is if i is past its end, and so is any other value
 abbrev pub without_item : ℕ → Value → Value
 without_item i (array vs) = array (values_of (remove (list_of_values vs) i))
 without_item i v = v
 
--- an array with v after its last element
+-- an array with v after its last element; any other value as it is
 abbrev pub with_item : Value → Value → Value
 with_item v (array vs) = array (values_of (list_of_values vs ++ v ∷ []))
 with_item v w = w
 
--- an object without the entry of key k
+-- an object without the entry of key k; any other value as it is
 abbrev pub without_entry : List ℕ → Value → Value
 without_entry k (object ps) = object (pairs_of (cut k (list_of_pairs ps)))
 without_entry k v = v
 
--- an object with the entry (k, v): at the position of k if it is present, else last
+-- an object with the entry (k, v): at the position of k if it is present, else last; any other value as it is
 abbrev pub with_entry : List ℕ → Value → Value → Value
 with_entry k v (object ps) = object (pairs_of (put k v (list_of_pairs ps)))
 with_entry k v w = w
@@ -44,8 +44,8 @@ cleared (object ps) = object no_pairs
 cleared (array vs) = array no_values
 cleared v = null
 
--- The error of a call that needs a value of kind `kind`, by whether the value is of that kind: an allocation failed, or
--- the error names the kind.
+-- The error of a call that needs a value of kind `kind`, by whether the value is of that kind: `OutOfMemory`, or of a
+-- value of another kind also `WrongType` with the kind's name.
 abbrev pub IsRefusal : Bool → List ℕ → Error → Type 0
 IsRefusal true kind e = e ≡ OutOfMemory
 IsRefusal false kind e = (e ≡ OutOfMemory) ⊎ IsWrongType kind e

@@ -5,5 +5,6 @@ use Rattle.std.specs.Vec.Iter.{into_iter_items}
 use Rattle.jzon_tree.specs.declared.object.IntoIter.{IntoIter}
 use Rattle.jzon_tree.specs.declared.value.JsonValue.{JsonValue}
 
+-- the entries that are still to be yielded, in order
 abbrev pub entries_left : IntoIter → List (List ℕ × JsonValue)
 entries_left it = zip (into_iter_items it.keys) (into_iter_items it.values)

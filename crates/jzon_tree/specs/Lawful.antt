@@ -17,6 +17,8 @@ IsText short s = IsUtf8 s × (length s ≤ 30)
 IsText long s = IsUtf8 s
 
 abbrev mutual
+  -- what the types of a value's parts promise of all of them: numbers within range, strings and keys of UTF-8, short
+  -- strings of at most 30 bytes, and distinct keys
   pub IsValue : Value → Type 0
   IsValue null = ⊤
   IsValue (boolean b) = ⊤
@@ -25,10 +27,12 @@ abbrev mutual
   IsValue (array vs) = AreValues vs
   IsValue (object ps) = ArePairs ps × AllPairs (λ j k. j ≢ k) (keys_of (list_of_pairs ps))
 
+  -- each of these is such a value
   pub AreValues : Values → Type 0
   AreValues no_values = ⊤
   AreValues (value v vs) = IsValue v × AreValues vs
 
+  -- each key is of UTF-8, and each value is such a value
   pub ArePairs : ValuePairs → Type 0
   ArePairs no_pairs = ⊤
   ArePairs (pair k v ps) = IsUtf8 k × IsValue v × ArePairs ps
@@ -43,7 +47,7 @@ IsNumber nan = ⊥
 IsNumber (parts positive m e) = ⊤
 
 abbrev mutual
-  -- no NaN inside
+  -- no number in the value is NaN
   pub HasNoNan : Value → Type 0
   HasNoNan null = ⊤
   HasNoNan (boolean b) = ⊤
@@ -52,10 +56,12 @@ abbrev mutual
   HasNoNan (array vs) = HaveNoNan vs
   HasNoNan (object ps) = PairsHaveNoNan ps
 
+  -- nor in these values
   pub HaveNoNan : Values → Type 0
   HaveNoNan no_values = ⊤
   HaveNoNan (value v vs) = HasNoNan v × HaveNoNan vs
 
+  -- nor in the values of these entries
   pub PairsHaveNoNan : ValuePairs → Type 0
   PairsHaveNoNan no_pairs = ⊤
   PairsHaveNoNan (pair k v ps) = HasNoNan v × PairsHaveNoNan ps

@@ -40,8 +40,8 @@ abbrev pub items_of : Value → Option (List Value)
 items_of (array vs) = Some (list_of_values vs)
 items_of _ = None
 
--- The elements once index i has one: the same if i is in range, else one null more; of a value that isn't an array, one
--- null for i = 0 and two for any other i.
+-- The elements once there is one for index i: the same if i is in range, else one null more; of a value that isn't an
+-- array, one null for i = 0 and two for any other i.
 abbrev pub with_place : {V : Type 0} → V → Option (List V) → ℕ → List V
 with_place null (Some xs) i = if nat_lt i (length xs) then xs else xs ++ null ∷ []
 with_place null None i = if nat_eq i 0 then null ∷ [] else null ∷ null ∷ []
@@ -52,7 +52,7 @@ abbrev pub place_in : {V : Type 0} → Option (List V) → ℕ → ℕ
 place_in (Some xs) i = if nat_lt i (length xs) then i else length xs
 place_in None i = if nat_eq i 0 then 0 else 1
 
--- the elements after `at_index_mut`
+-- the elements of a value once `at_index_mut` has made sure that there is one for index i
 abbrev pub items_with_place : JsonValue → ℕ → List JsonValue
 items_with_place v i = with_place Null (items_in v) i
 
@@ -62,10 +62,12 @@ place_made v i = place_in (items_in v) i
 
 -- ---- an object or array value has what it was built from
 
+-- an object has the entries that it was built from
 pub entries_in-object : (ps : List (List ℕ × JsonValue)) → entries_in (object_value (with_entries ps)) ≡ ps
 unfolding roll-JsonValue out-JsonValue roll
 entries_in-object ps = ap entries_at (out-roll-JsonValue (JsonValue-F.Object (with_entries ps)))
 
+-- an array has the elements that it was built from
 pub items_in-array : (vs : Vec JsonValue) → items_in (array_value vs) ≡ Some vs.items
 unfolding roll-JsonValue out-JsonValue roll
 items_in-array vs = ap items_at (out-roll-JsonValue (JsonValue-F.Array vs))

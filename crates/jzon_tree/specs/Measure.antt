@@ -8,9 +8,10 @@ use Rattle.jzon_tree.specs.declared.value.JsonValue.{JsonValue, size-JsonValue}
 abbrev pub size : JsonValue → ℕ
 size v = size-JsonValue v
 
--- the size of the largest of these values, and of the values of these entries
+-- the size of the largest of these values
 abbrev pub largest : List JsonValue → ℕ
 largest vs = most size-JsonValue vs
 
+-- the size of the largest value of these entries
 abbrev pub largest_under : List (List ℕ × JsonValue) → ℕ
 largest_under ps = most size-JsonValue (values_of ps)

@@ -24,6 +24,7 @@ passes test None = false
 passes test (Some w) = test w
 
 abbrev mutual
+  -- whether two values are equal: how a string is stored, a decimal is written and entries are ordered doesn't count
   pub same : Value → Value → Bool
   same null null = true
   same (boolean b) (boolean c) = beq b c

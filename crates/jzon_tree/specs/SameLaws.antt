@@ -113,6 +113,7 @@ same_at None None = true
 same_at None (Some w) = false
 same_at (Some v) p = passes (same v) p
 
+-- at each key both have equal values, or neither has one
 abbrev pub SameAtEach : ValuePairs → ValuePairs → Type 0
 SameAtEach ps qs = (k : List ℕ) → same_at (at k ps) (at k qs) ≡ true
 
@@ -131,12 +132,14 @@ same_at-there None None w h e = absurd (none-some w e)
 same_at-there None (Some x) w h e = h
 same_at-there (Some v) p w h e = refl
 
+-- equal objects have equal values at each key
 pub object-elim : (ps qs : ValuePairs) → same (object ps) (object qs) ≡ true → SameAtEach ps qs
 object-elim ps qs h k =
     let both = and_parts (same_under [] ps qs) (has_keys_within qs ps) h in
     same_at-from (at k ps) (at k qs) (λ v e. under-elim [] ps qs both.0 k v e refl)
     (λ w e. within-elim qs ps both.1 k w e)
 
+-- objects with equal values at each key are equal
 pub object-intro : (ps qs : ValuePairs) → SameAtEach ps qs → same (object ps) (object qs) ≡ true
 object-intro ps qs h =
     and_from _ _ (under-intro [] ps qs (λ k v e unseen. same_at-passes (at k ps) (at k qs) v (h k) e))
@@ -222,6 +225,7 @@ mutual
 same-symm : (v w : Value) → same v w ≡ true → same w v ≡ true
 same-symm v w h = sym (same-alike v w h v) ∙ same-refl v
 
+-- `same` is an equivalence
 pub same_equiv : IsEquivalence same
 same_equiv = record {
   refl = same-refl;

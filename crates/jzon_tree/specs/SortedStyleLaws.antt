@@ -120,6 +120,7 @@ module _ (keys : List (List ℕ)) where
   ascend-sorted [] = refl
   ascend-sorted (p ∷ ps) = ascend-put p (sorted ps) (ascend-sorted ps)
 
+-- the sorted style allows a text of each value
 pub IsStyle-sorted : IsStyle sorted_style
 IsStyle-sorted = record {
   whitespace = IsStyle-compact.whitespace;

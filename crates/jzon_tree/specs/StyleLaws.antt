@@ -49,6 +49,7 @@ occurrences-one a (suc k) (suc n) h =
     ∙ zero-add (occurrences (a + suc k) (suc a) n) ∙ ap (λ i. occurrences i (suc a) n) (add-suc a k ∙ sym (suc-add a k))
     ∙ occurrences-one (suc a) k n (le_of_suc-le-suc h)
 
+-- the order of insertion has each position once
 pub IsOrder-insertion : (n : ℕ) → IsOrder n (insertion n)
 IsOrder-insertion n = record {
   as_many = length-range_with_len 0 n;
@@ -56,6 +57,8 @@ IsOrder-insertion n = record {
 }
 
 -- ---- the styles
+-- a style of one whitespace for each depth, one form of the colon and the order of insertion allows a text of each
+-- value
 pub IsStyle-only : (line : ℕ → List ℕ) (wide : Bool) → ((dent : ℕ) → is_all_whitespace false (line dent) ≡ true)
     → IsStyle (only line wide)
 IsStyle-only line wide h = record {
@@ -65,13 +68,16 @@ IsStyle-only line wide h = record {
       (insertion (length ks), IsOrder-insertion (length ks), nat_list_eq_equiv.refl (insertion (length ks)));
 }
 
+-- the compact style allows a text of each value
 pub IsStyle-compact : IsStyle compact_style
 IsStyle-compact = IsStyle-only (λ dent. []) false (λ dent. refl)
 
+-- spaces are whitespace, also of a strict reading
 pub spaces_are_whitespace : (strict : Bool) (n : ℕ) → is_all_whitespace strict (replicate n 32) ≡ true
 spaces_are_whitespace strict zero = refl
 spaces_are_whitespace strict (suc n) = spaces_are_whitespace strict n
 
+-- a newline and the spaces of an indent are whitespace
 pub pretty_whitespace : (spaces dent : ℕ)
     → IsAllowedWhitespace (pretty_style spaces) dent ((pretty_layout spaces).line dent)
 pretty_whitespace spaces dent = (
@@ -80,6 +86,7 @@ pretty_whitespace spaces dent = (
       ((pretty_layout spaces).line dent),
 )
 
+-- each pretty style allows a text of each value
 pub IsStyle-pretty : (spaces : ℕ) → IsStyle (pretty_style spaces)
 IsStyle-pretty spaces =
     IsStyle-only (pretty_layout spaces).line true (λ dent. spaces_are_whitespace false (dent * spaces))
@@ -88,6 +95,7 @@ IsStyle-pretty spaces =
 pub insertion_allowed : (ks : List (List ℕ)) → bytes_eq (insertion (length ks)) (insertion (length ks)) ≡ true
 insertion_allowed ks = nat_list_eq_equiv.refl (insertion (length ks))
 
+-- the loosest style allows a text of each value
 pub IsStyle-any : IsStyle any_style
 IsStyle-any = record {
   whitespace = λ dent. ([], (refl, refl));

@@ -5,6 +5,7 @@ use Rattle.jzon_tree.specs.Generator.{insertion}
 use Rattle.jzon_tree.specs.Text.{compact_layout, pretty_layout}
 use Rattle.jzon_tree.specs.Writing.{Style}
 
+-- whether two forms of the colon are the same
 abbrev pub same_form : Bool → Bool → Bool
 same_form true b = b
 same_form false b = not b

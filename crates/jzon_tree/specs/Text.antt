@@ -20,6 +20,7 @@ escaped_byte c =
     else (if c == 13 then codes "\\r"
     else (if nat_lt c 32 then codes "\\u00" ++ digit_char (c / 16) ∷ digit_char (c % 16) ∷ [] else c ∷ []))))))
 
+-- a string's bytes, escaped, without quotes
 abbrev pub escaped : List ℕ → List ℕ
 escaped = flat_map escaped_byte
 
@@ -27,6 +28,7 @@ escaped = flat_map escaped_byte
 abbrev pub quoted : List ℕ → List ℕ
 quoted s = quotation_mark ∷ (escaped s ++ quotation_mark ∷ [])
 
+-- `true` or `false`
 abbrev pub boolean_text : Bool → List ℕ
 boolean_text b = if b then codes "true" else codes "false"
 
@@ -59,6 +61,7 @@ abbrev mutual
       ∷ (l.line (suc depth) ++ layout_text l (suc depth) v ++ more_values_text l
       depth vs)
 
+  -- the remaining entries and the closing bracket
   pub more_pairs_text : Spacing → ℕ → ValuePairs → List ℕ
   more_pairs_text l depth no_pairs = l.line depth ++ end_object ∷ []
   more_pairs_text l depth (pair k v ps) =
@@ -73,8 +76,11 @@ compact_layout = record { line = λ depth. []; colon = codes ":" }
 abbrev pub pretty_layout : ℕ → Spacing
 pretty_layout spaces = record { line = λ depth. 10 ∷ replicate (depth * spaces) 32; colon = codes ": " }
 
+-- the compact text of a value: no whitespace
 abbrev pub compact : Value → List ℕ
 compact = layout_text compact_layout 0
 
+-- the text of a value inside `depth` containers with a line for each element and entry, and `spaces` spaces for each
+-- container around it
 abbrev pub pretty : Value → ℕ → ℕ → List ℕ
 pretty v spaces depth = layout_text (pretty_layout spaces) depth v

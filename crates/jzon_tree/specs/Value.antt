@@ -7,8 +7,9 @@ pub data Kind : Type 0 where
   short : Kind
   long : Kind
 
--- A list of values, or of keys and values in their order. A program's objects have distinct keys.
+-- Lists of values, and of keys and values, in their order. A program's objects have distinct keys.
 mutual
+  -- A JSON value as plain data.
   pub data Value : Type 0 where
     null : Value
     boolean : Bool → Value
@@ -31,18 +32,22 @@ kind_of bytes = if nat_le (length bytes) 30 then short else long
 
 -- ---- conversions to and from lists
 
+-- the values of a list
 abbrev pub values_of : List Value → Values
 values_of [] = no_values
 values_of (v ∷ vs) = value v (values_of vs)
 
+-- the entries of a list
 abbrev pub pairs_of : List (List ℕ × Value) → ValuePairs
 pairs_of [] = no_pairs
 pairs_of (p ∷ ps) = pair p.0 p.1 (pairs_of ps)
 
+-- values as a list
 abbrev pub list_of_values : Values → List Value
 list_of_values no_values = []
 list_of_values (value v vs) = v ∷ list_of_values vs
 
+-- entries as a list
 abbrev pub list_of_pairs : ValuePairs → List (List ℕ × Value)
 list_of_pairs no_pairs = []
 list_of_pairs (pair k v ps) = (k, v) ∷ list_of_pairs ps
@@ -50,6 +55,7 @@ list_of_pairs (pair k v ps) = (k, v) ∷ list_of_pairs ps
 -- ---- the nesting depth of non-empty containers
 
 abbrev mutual
+  -- how many non-empty containers nest in the value
   pub nest : Value → ℕ
   nest null = 0
   nest (boolean b) = 0
@@ -60,10 +66,12 @@ abbrev mutual
   nest (object no_pairs) = 0
   nest (object (pair k v ps)) = suc (max (nest v) (most_nest_under ps))
 
+  -- the greatest depth of these values
   pub most_nest : Values → ℕ
   most_nest no_values = 0
   most_nest (value v vs) = max (nest v) (most_nest vs)
 
+  -- the greatest depth of the values of these entries
   pub most_nest_under : ValuePairs → ℕ
   most_nest_under no_pairs = 0
   most_nest_under (pair k v ps) = max (nest v) (most_nest_under ps)

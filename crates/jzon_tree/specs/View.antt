@@ -17,22 +17,26 @@ value_step (JsonValue-F.Boolean b) = boolean b
 value_step (JsonValue-F.Object ps) = object ps
 value_step (JsonValue-F.Array vs) = array (values_of vs.items)
 
+-- the entries of an object, given the views of their values
 abbrev pub object_step : Object-F Value ValuePairs → ValuePairs
 object_step o = pairs_of o.pairs
 
+-- the value, as plain data, for which a `JsonValue` stands
 abbrev pub view : JsonValue → Value
 view = fold-JsonValue Value ValuePairs value_step object_step
 
--- the views of values and of entries
+-- the same for a list of values
 abbrev pub view_values : List JsonValue → Values
 view_values vs = values_of (map view vs)
 
+-- the same for the values of a list of entries
 abbrev pub viewed : List (List ℕ × JsonValue) → List (List ℕ × Value)
 viewed ps = map (λ p. (p.0, view p.1)) ps
 
+-- the same, as the entries of an object
 abbrev pub view_pairs : List (List ℕ × JsonValue) → ValuePairs
 view_pairs ps = pairs_of (viewed ps)
 
--- the value that an `Object` stands for
+-- the value, as plain data, for which an `Object` stands
 abbrev pub view_object : Object → Value
 view_object o = object (view_pairs (entries_of o))

@@ -15,6 +15,7 @@ use Rattle.jzon_tree.specs.Text.{quoted, boolean_text}
 abbrev pub is_whitespace : Bool → ℕ → Bool
 is_whitespace strict c = (c == 9 || c == 10 || c == 13 || c == 32) || (not strict && (c == 11 || c == 12))
 
+-- each of these characters is whitespace
 abbrev pub is_all_whitespace : Bool → List ℕ → Bool
 is_all_whitespace strict = list_all (is_whitespace strict)
 
@@ -25,6 +26,7 @@ pub record Style : Type 0 where
   pub colon : Bool → Bool
   pub order : List (List ℕ) → List ℕ → Bool
 
+-- a colon, with a space after it or without
 abbrev pub colon_text : Bool → List ℕ
 colon_text wide = if wide then codes ": " else codes ":"
 

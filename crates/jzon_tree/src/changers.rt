@@ -1,14 +1,6 @@
 //! Changes to values (docs/RULES.md, "Changers"). A call that fails leaves the value's meaning
-//! unchanged and drops the value that was passed to it.
-//!
-//! In clauses, `view v` is what the value `v` means. `with_item`, `without_item`, `with_entry`,
-//! `without_entry`, `without_text` and `cleared` give what a call leaves of it. `items` are the
-//! elements of an array, `entries` the entries of an object (of a `JsonValue`: `entries_in`), and
-//! `count` is how many there are: none for any other value. `find k entries` is the value of the
-//! key `k`, and `or_null` makes null of `None`. `T.means value v` says that `value` converts into
-//! `v`, and `T.is_free value` that this can't fail. `IsRefusal k kind e` says that the error `e` is
-//! `OutOfMemory` or, if `k` is false, `WrongType(kind)`. A `WrongType` has an allocated string, so
-//! a call on a value of the wrong kind may fail with either.
+//! unchanged and drops the value that was passed to it. A `WrongType` has an allocated string, so a
+//! call on a value of the wrong kind may also fail with `OutOfMemory`.
 #![tactic(auto, using(crate::proofs::Values::Views::views, crate::proofs::Values::PartViews::seen))]
 
 ghost use Rattle.std.specs.Prelude.{◌≡◌, ◌-◌, codes, true, false, string_bytes, option_map, slice_get, remove, IfOk, IfErr, OnOk, OnErr, IsOkUnless, None};

@@ -1,7 +1,5 @@
 //! Copies of values and of objects: `clone(alloc)`, and std's `Clone` for `derive(Clone)` and for
-//! `clone` of lists. In clauses, `view` gives what a value means, and `view_object` what an object
-//! means. `copy_fields` is a fast copy: of a `Number` not by way of the stack, and of a `Short`
-//! without a call. Functions that call one another have the same `#[cycle(..)]`.
+//! `clone` of lists.
 #![tactic(auto, using(crate::proofs::Values::Views::views))]
 
 ghost use Rattle.std.specs.Prelude.{◌≡◌, ◌+◌, ◌<◌, ◌++◌, ◌∷◌, [], map, true, false, IfOk, IsOkUnless, vec_len, vec_capacity};
@@ -90,8 +88,7 @@ fn push_inline(copies: &mut Vec<JsonValue>, value: &JsonValue) -> bool
     true
 }
 
-/// As `JsonValue::clone`, with the allocator of the value. The error is a failed allocation, the
-/// only error of `clone(alloc)`.
+/// As `JsonValue::clone`, with the allocator of the value.
 impl Clone for JsonValue {
     ghost is_clone = { λ v w. view w ≡ view v };
 
@@ -108,7 +105,7 @@ impl Clone for JsonValue {
     }
 }
 
-/// As `Object::clone`, with the allocator of the object. The error is a failed allocation.
+/// As `Object::clone`, with the allocator of the object.
 impl Clone for Object {
     ghost is_clone = { λ o p. view_object p ≡ view_object o };
 

@@ -1,8 +1,4 @@
-//! Equality of values and of objects (docs/RULES.md, "Equality"). By the ghost member `eq`, `==` is
-//! the definition `same`, and `laws` proves that this is an equivalence. `same_items` is `same` at
-//! each position, of as many elements. `view`, `view_object` and `view_values` give what a value,
-//! an object and values mean. `find k entries` is the value of the key `k`. Functions that call one
-//! another have the same `#[cycle(..)]`.
+//! Equality of values and of objects (docs/RULES.md, "Equality").
 
 ghost use Rattle.std.specs.Prelude.{◌≡◌, Some};
 ghost use Rattle.std.specs.Option.{option_copied};

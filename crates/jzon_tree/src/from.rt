@@ -1,6 +1,5 @@
-//! Values from types whose conversion allocates nothing (docs/RULES.md, "Conversions"). In clauses,
-//! `integer_parts n` is the number of the integer `n`, with the exponent 0; `pos n` is an unsigned
-//! `n` as an integer. `view` gives the meaning of a value, such as `number`, `boolean` or `text`.
+//! Values from types whose conversion allocates nothing (docs/RULES.md, "Conversions"). An integer
+//! becomes the number with the exponent 0.
 
 ghost use Rattle.std.specs.Prelude.{◌≡◌, pos, string_bytes};
 ghost use Rattle.jzon_base.specs.Decimal.{integer_parts};
@@ -32,7 +31,6 @@ impl<T: Direct> From<T> for JsonValue {
     }
 }
 
-/// The number of this integer, with the exponent 0.
 impl Direct for u8 {
     ghost value = { λ n. number (integer_parts (pos n)) };
 
@@ -41,7 +39,6 @@ impl Direct for u8 {
     }
 }
 
-/// The number of this integer, with the exponent 0.
 impl Direct for u16 {
     ghost value = { λ n. number (integer_parts (pos n)) };
 
@@ -50,7 +47,6 @@ impl Direct for u16 {
     }
 }
 
-/// The number of this integer, with the exponent 0.
 impl Direct for u32 {
     ghost value = { λ n. number (integer_parts (pos n)) };
 
@@ -59,7 +55,6 @@ impl Direct for u32 {
     }
 }
 
-/// The number of this integer, with the exponent 0.
 impl Direct for u64 {
     ghost value = { λ n. number (integer_parts (pos n)) };
 
@@ -68,7 +63,6 @@ impl Direct for u64 {
     }
 }
 
-/// The number of this integer, with the exponent 0.
 impl Direct for usize {
     ghost value = { λ n. number (integer_parts (pos n)) };
 
@@ -77,7 +71,6 @@ impl Direct for usize {
     }
 }
 
-/// The number of this integer, with the exponent 0.
 impl Direct for i8 {
     ghost value = { λ n. number (integer_parts n) };
 
@@ -86,7 +79,6 @@ impl Direct for i8 {
     }
 }
 
-/// The number of this integer, with the exponent 0.
 impl Direct for i16 {
     ghost value = { λ n. number (integer_parts n) };
 
@@ -95,7 +87,6 @@ impl Direct for i16 {
     }
 }
 
-/// The number of this integer, with the exponent 0.
 impl Direct for i32 {
     ghost value = { λ n. number (integer_parts n) };
 
@@ -104,7 +95,6 @@ impl Direct for i32 {
     }
 }
 
-/// The number of this integer, with the exponent 0.
 impl Direct for i64 {
     ghost value = { λ n. number (integer_parts n) };
 
@@ -113,7 +103,6 @@ impl Direct for i64 {
     }
 }
 
-/// The number of this integer, with the exponent 0.
 impl Direct for isize {
     ghost value = { λ n. number (integer_parts n) };
 
@@ -122,7 +111,6 @@ impl Direct for isize {
     }
 }
 
-/// A boolean.
 impl Direct for bool {
     ghost value = { boolean };
 
@@ -149,7 +137,6 @@ impl Direct for String {
     }
 }
 
-/// An object, as it is.
 impl Direct for Object {
     ghost value = { view_object };
 

@@ -1,8 +1,4 @@
 //! Conversions into values (docs/RULES.md, "Conversions").
-//!
-//! In clauses, a `Value` is a JSON value as plain data: `view v` is the one for which the
-//! `JsonValue` `v` stands, and `text kind bytes` is a string, which is stored as its kind says.
-//! `kind_of bytes` is inline up to 30 bytes, and allocated above.
 
 ghost use Rattle.std.specs.Prelude.{◌≡◌, ◌≤◌, ⊤, IfOk, IsOk, IsOkUnless, length};
 ghost use Rattle.jzon_tree.specs.Value.{Value, kind_of, text};
@@ -51,7 +47,7 @@ pub trait IntoJson: Drop {
         ensures free { is_free self → IsOk result };
 }
 
-/// A value means itself. It allocates nothing.
+/// A value means itself.
 impl IntoJson for JsonValue {
     ghost means = { λ v w. w ≡ view v };
 
@@ -63,7 +59,7 @@ impl IntoJson for JsonValue {
 }
 
 /// The types of `Direct`: integers, `bool`, `Number`, `String` and `Object`. Each converts as by
-/// `JsonValue::from`, into the value that clauses call `T.value x`. It allocates nothing.
+/// `JsonValue::from`, without an allocation.
 impl<T: Direct> IntoJson for T {
     ghost means = { λ x v. v ≡ T.value x };
 
@@ -74,7 +70,7 @@ impl<T: Direct> IntoJson for T {
     }
 }
 
-/// A string of at most 30 bytes (`MAX_LEN`) is stored inline, without an allocation. A longer one
+/// A string of at most `short::MAX_LEN` bytes is stored inline, without an allocation. A longer one
 /// is copied to an allocated `String`.
 impl IntoJson for &str {
     ghost means = { λ s v. v ≡ text (kind_of s.now) s.now };

@@ -1,21 +1,7 @@
-//! Mutable references to the parts of a value (docs/RULES.md, "Readers" and "Changers").
-//!
-//! A clause `writes_back` says what the receiver is once a returned `&mut` is no longer used. Its
-//! form `ensures* .. sem 𝓛` is the checker's. `LendsIf R S receiver result f x` says that at `Some`
-//! it is `f w`, for the last value `w` to which the reference referred, and `x` at `None`;
-//! `LendsIfOk` says so of `Ok` and `Err`, and `LendsSoOk` with relations in place of `f` and `x`.
-//! `R` and `S` are the types of the receiver and of the value, each named by its row. The checker
-//! proves what is written back only if these types differ, so three calls have their bodies in the
-//! trait `Tree`: `get_in`, `at_in` and `at_index_in`.
-//!
-//! Other words of clauses: `object_in v`, `entries_in v` and `items_in v` are the object, the
-//! entries and the elements that the `JsonValue` `v` holds; `object_value` and `array_value` make
-//! one of an object and of a `Vec`, and `with_entries` makes an object of entries. `find`, `put`
-//! and `with_default` are the look-up of a key, the writing of its value, and the adding of a
-//! missing key. `items_with_place v index` are the elements of `v` once there is one for the index,
-//! and `place_made v index` is the position of this one. `items_left` and `iter_mut_rest` are what
-//! an iterator has left. A clause `present` says that only a call for a missing key or element can
-//! fail.
+//! Mutable references to the parts of a value (docs/RULES.md, "Readers" and "Changers"). The
+//! checker proves what is written back through a reference only if its type isn't that of the
+//! receiver (docs/TOOLCHAIN.md, "1. Prove a `&mut T` out of a `T`"). So three calls have their
+//! bodies in the trait `Tree`: `get_in`, `at_in` and `at_index_in`.
 
 ghost use Rattle.std.specs.Prelude.{◌≡◌, ◌≤◌, [], length, slice_get, slice_set, IfOk, OnErr, IfSome, IsOkUnless, None, Some, unwrap_or};
 ghost use Rattle.std.specs.Borrow.{sem, LendsIf, LendsIfOk, LendsSoOk};

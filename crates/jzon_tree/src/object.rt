@@ -1,21 +1,5 @@
-//! Objects. `?` turns the `AllocError` of a call of `Pairs` or `Key` into `OutOfMemory`. The types
-//! `Object` and `JsonValue`, and the functions that drop them, refer to each other in a circle:
-//! hence `#[cycle(json)]`.
-//!
-//! In clauses, `entries_of object` are its entries, and `with_entries` makes the object of some
-//! entries. Of entries, `find k` is the value of the key `k`; `put k v` puts `v` under `k`, at the
-//! key's position if it is present, else last; `put_each` puts all into an empty list, one after
-//! the other; `cut k` removes the entry of `k`; `set_value entries i v` replaces the value at a
-//! position; and `with_default k v` adds an entry last if `k` is missing. `iter_rest` and
-//! `iter_mut_rest` are what an iterator has left. `view_object` is the object as plain data.
-//! `PutMeans text means pairs v` says that `v` is, as plain data, the object of what these pairs
-//! mean, put one after the other. A clause `present` says that only a call for a missing key can
-//! fail.
-//!
-//! A clause `writes_back` says what the receiver is once a returned `&mut` is no longer used.
-//! `LendsIf .. result f x` says that at `Some` it is `f w`, for the last value `w` to which the
-//! reference referred, and `x` at `None`; `LendsIfOk` says so of `Ok` and `Err`. The `..` are the
-//! types of both, each named by its row, and the receiver.
+//! Objects: `Pairs` of values. `?` turns the `AllocError` of a call of `Pairs` or `Key` into
+//! `OutOfMemory`.
 
 ghost use Rattle.std.specs.Prelude.{◌≡◌, ◌-◌, ◌==◌, List, [], length, OnOk, OnErr, IfOk, IsOkUnless, None, IfSome, Some, is_some};
 ghost use Rattle.std.specs.Option.{option_copied, option_copied_mut};
@@ -135,7 +119,7 @@ impl Object {
     }
 
     /// The object of the entries of keys and as many values, put one after the other, as by
-    /// `from_pairs`. The error is a failed allocation.
+    /// `from_pairs`.
     ///
     /// Public only for the parser. Inlined like `Pairs::from_entries`, because each small object of
     /// a text is made here.
@@ -155,8 +139,7 @@ impl Object {
     }
 
     /// The object of the entries of keys, and of as many values. `known` is the filter or the index
-    /// by which a strict reading found these keys distinct. The clause `Knows` says that it is of
-    /// exactly these keys, so an index isn't made again. The error is a failed allocation.
+    /// by which a strict reading found exactly these keys distinct, so an index isn't made again.
     #[doc(hidden)]
     pub fn from_known(
         alloc: Global,
@@ -344,7 +327,7 @@ fn drop_values(mut values: Vec<JsonValue>) {
 }
 
 /// The object that `Object::from_pairs` makes of these entries: a repeated key keeps its first
-/// position and takes the last value. The error is a failed allocation.
+/// position and takes the last value.
 impl<K: AsStr + Drop, V: IntoJson> FromIterator<(K, V)> for Object {
     type Alloc = Global;
 
@@ -384,8 +367,6 @@ impl<'a> IntoIterator for &'a mut Object {
     }
 }
 
-/// Yields the entries in order. In clauses, `entries_left it` are those that are left. The clauses
-/// `lower` and `upper` of `size_hint` are the trait's.
 impl Iterator for IntoIter {
     ghost use Rattle.jzon_tree.specs.IntoIter.{entries_left};
 
@@ -410,7 +391,6 @@ impl Iterator for IntoIter {
     }
 }
 
-/// Yields the last entry that is left.
 impl DoubleEndedIterator for IntoIter {
     ghost use Rattle.jzon_tree.specs.IntoIter.{entries_left};
 
@@ -421,7 +401,6 @@ impl DoubleEndedIterator for IntoIter {
     }
 }
 
-/// The number of entries that are left.
 impl ExactSizeIterator for IntoIter {
     fn len(&self) -> usize {
         self.keys.len()

@@ -1,14 +1,4 @@
 //! Reading values (docs/RULES.md, "Readers"). None of these calls allocates.
-//!
-//! In clauses, `view v` is the value for which the `JsonValue` `v` stands, as plain data: a string
-//! is `text kind bytes`, whether it is stored inline or allocated. `view_object`, `view_values` and
-//! `viewed` are the same for an object, for elements and for entries. `is_null`, `is_text` and so
-//! on say of which kind a value is, and `is_empty` and `count` are what `is_empty` and `len`
-//! return. `text_in`, `number_in`, `truth_in`, `object_of` and `array_of` are the string, number,
-//! boolean, object or array, if the value is one. `items` and `entries` are the elements and the
-//! entries, `[]` for any other value; `find k entries` is the value of the key `k`. `iter_rest` is
-//! what an iterator has left. `same` compares as `==` does, so the kind `short` of a text doesn't
-//! count.
 #![tactic(auto, using(crate::proofs::Values::Views::views, crate::proofs::Values::PartViews::seen))]
 
 ghost use Rattle.std.specs.Prelude.{◌≡◌, map, is_some, option_map};

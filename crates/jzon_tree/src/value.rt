@@ -19,7 +19,7 @@ use jzon_base::short::Short;
 pub enum JsonValue {
     /// `null`.
     Null,
-    /// A string of at most 30 bytes, stored inline.
+    /// A string of at most `short::MAX_LEN` bytes, stored inline.
     Short(Short),
     /// An allocated string.
     String(String),

@@ -1,23 +1,5 @@
-//! A value inside a value, which may be missing (docs/RULES.md, "Readers").
-//!
-//! In clauses, `shown v` is the value that the view `v` shows, or none if it is missing, and `seen
-//! v` is this value, or null if it is missing. Both are values as plain data, as is `view v`, for
-//! which the `JsonValue` `v` stands; `self.entry` is the argument `self`. `view_object`,
-//! `view_values` and `viewed` are the same for an object, for elements and for entries.
-//!
-//! `is_null`, `is_text` and so on say of which kind a value is, and `is_empty` and `count` are what
-//! `is_empty` and `len` return. `text_in`, `number_in`, `truth_in`, `object_of` and `array_of` are
-//! the string, number, boolean, object or array, if the value is one. `items` and `entries` are the
-//! elements and the entries, `[]` for any other value; `find k entries` is the value of the key
-//! `k`. `iter_rest` is what an iterator has left. `same` compares as `==` does, so the kind `short`
-//! of a text doesn't count.
-//!
-//! `SomeWhere o P r` says that `r` is `Some` of the integer in `o`, if there is one and `P` holds
-//! of it, and else `None`. `integer_in v` is the integer, of any size, if `v` is a number with the
-//! exponent 0, and `unsigned_in v` is the same if its sign is positive too. A definition such as
-//! `unsigned_fixed_point_in v point` is what the reading of that name gives, if it gives an
-//! integer, of any size. `FitsSigned w64` holds of the integers of 64 bits. `number (integer_parts
-//! n)` is the number of the integer `n`, with the exponent 0.
+//! A value inside a value, which may be missing (docs/RULES.md, "Readers"). A `View` has the
+//! readers of `JsonValue`, and a missing value reads as null.
 #![tactic(auto, using(crate::proofs::Values::Views::views, crate::proofs::Values::PartViews::seen))]
 
 ghost use Rattle.std.specs.Prelude.{◌≡◌, ◌<◌, ◌^◌, pos, map, is_some, option_map, slice_get, FitsSigned, Some};
@@ -156,51 +138,49 @@ impl<'a> View<'a> {
         self.value.is_some_and(JsonValue::is_array)
     }
 
-    /// Whether it is missing, null, false, a zero, NaN, an empty string or an empty container.
+    /// As `JsonValue::is_empty`. `true` if the value is missing.
     pub fn is_empty(self) -> bool
         ensures { result ≡ is_empty (seen self.entry) }
     {
         self.value.is_none_or(JsonValue::is_empty)
     }
 
-    /// The number of entries of an object or of elements of an array, and 0 for any other value or
-    /// if missing.
+    /// As `JsonValue::len`. 0 if the value is missing.
     pub fn len(self) -> usize
         ensures { result ≡ count (seen self.entry) }
     {
         self.value.map_or(0, JsonValue::len)
     }
 
-    /// The string, however it is stored. `None` for any other value or if missing.
+    /// As `JsonValue::as_str`. `None` if the value is missing.
     pub fn as_str(self) -> Option<&'a str>
         ensures { option_copied result ≡ text_in (seen self.entry) }
     {
         self.value?.as_str()
     }
 
-    /// The number, with its parts as they were parsed or set. `None` for any other value or if
-    /// missing.
+    /// As `JsonValue::as_number`. `None` if the value is missing.
     pub fn as_number(self) -> Option<Number>
         ensures { result ≡ number_in (seen self.entry) }
     {
         self.value?.as_number()
     }
 
-    /// The boolean. `None` for any other value or if missing.
+    /// As `JsonValue::as_bool`. `None` if the value is missing.
     pub fn as_bool(self) -> Option<bool>
         ensures { result ≡ truth_in (seen self.entry) }
     {
         self.value?.as_bool()
     }
 
-    /// The object. `None` for any other value or if missing.
+    /// As `JsonValue::as_object`. `None` if the value is missing.
     pub fn as_object(self) -> Option<&'a Object>
         ensures { option_map (λ o. view_object o.now) result ≡ object_of (seen self.entry) }
     {
         self.value?.as_object()
     }
 
-    /// The elements of the array. `None` for any other value or if missing.
+    /// As `JsonValue::as_array`. `None` if the value is missing.
     pub fn as_array(self) -> Option<&'a Vec<JsonValue>>
         ensures { option_map (λ vs. array (view_values vs.now.items)) result
             ≡ array_of (seen self.entry) }
@@ -215,16 +195,14 @@ impl<'a> View<'a> {
         self.at(key).value.is_some()
     }
 
-    /// Iterates over the elements of an array in order, from both ends; over nothing for any other
-    /// value or if missing.
+    /// As `JsonValue::members`. Over nothing if the value is missing.
     pub fn members(self) -> Members<'a>
         ensures { map view (iter_rest result) ≡ items (seen self.entry) }
     {
         self.value.map_or([].iter(), JsonValue::members)
     }
 
-    /// Iterates over the entries of an object in order, from both ends; over nothing for any other
-    /// value or if missing.
+    /// As `JsonValue::entries`. Over nothing if the value is missing.
     pub fn entries(self) -> Entries<'a>
         ensures { viewed result ≡ entries (seen self.entry) }
     {
@@ -252,89 +230,77 @@ impl<'a> View<'a> {
         self.as_bool() == Some(other)
     }
 
-    /// The number as `JsonValue::as_u64` reads it: its sign is positive, its exponent is 0, and it
-    /// fits. `None` also if the value is missing.
+    /// As `JsonValue::as_u64`. `None` if the value is missing.
     pub fn as_u64(self) -> Option<u64>
         ensures { SomeWhere (unsigned_in (seen self.entry)) (λ n. n < 2 ^ 64) result }
     {
         self.value?.as_u64()
     }
 
-    /// The number as `JsonValue::as_u32` reads it: its sign is positive, its exponent is 0, and it
-    /// fits. `None` also if the value is missing.
+    /// As `JsonValue::as_u32`. `None` if the value is missing.
     pub fn as_u32(self) -> Option<u32>
         ensures { SomeWhere (unsigned_in (seen self.entry)) (λ n. n < 2 ^ 32) result }
     {
         self.value?.as_u32()
     }
 
-    /// The number as `JsonValue::as_u16` reads it: its sign is positive, its exponent is 0, and it
-    /// fits. `None` also if the value is missing.
+    /// As `JsonValue::as_u16`. `None` if the value is missing.
     pub fn as_u16(self) -> Option<u16>
         ensures { SomeWhere (unsigned_in (seen self.entry)) (λ n. n < 2 ^ 16) result }
     {
         self.value?.as_u16()
     }
 
-    /// The number as `JsonValue::as_u8` reads it: its sign is positive, its exponent is 0, and it
-    /// fits. `None` also if the value is missing.
+    /// As `JsonValue::as_u8`. `None` if the value is missing.
     pub fn as_u8(self) -> Option<u8>
         ensures { SomeWhere (unsigned_in (seen self.entry)) (λ n. n < 2 ^ 8) result }
     {
         self.value?.as_u8()
     }
 
-    /// The number as `JsonValue::as_usize` reads it: its sign is positive, its exponent is 0, and
-    /// it fits. `None` also if the value is missing.
+    /// As `JsonValue::as_usize`. `None` if the value is missing.
     pub fn as_usize(self) -> Option<usize>
         ensures { SomeWhere (unsigned_in (seen self.entry)) (λ n. n < 2 ^ 64) result }
     {
         self.value?.as_usize()
     }
 
-    /// The number as `JsonValue::as_i64` reads it: its exponent is 0, and it fits. `None` also if
-    /// the value is missing.
+    /// As `JsonValue::as_i64`. `None` if the value is missing.
     pub fn as_i64(self) -> Option<i64>
         ensures { SomeWhere (integer_in (seen self.entry)) (FitsSigned w64) result }
     {
         self.value?.as_i64()
     }
 
-    /// The number as `JsonValue::as_i32` reads it: its exponent is 0, and it fits. `None` also if
-    /// the value is missing.
+    /// As `JsonValue::as_i32`. `None` if the value is missing.
     pub fn as_i32(self) -> Option<i32>
         ensures { SomeWhere (integer_in (seen self.entry)) (FitsSigned w32) result }
     {
         self.value?.as_i32()
     }
 
-    /// The number as `JsonValue::as_i16` reads it: its exponent is 0, and it fits. `None` also if
-    /// the value is missing.
+    /// As `JsonValue::as_i16`. `None` if the value is missing.
     pub fn as_i16(self) -> Option<i16>
         ensures { SomeWhere (integer_in (seen self.entry)) (FitsSigned w16) result }
     {
         self.value?.as_i16()
     }
 
-    /// The number as `JsonValue::as_i8` reads it: its exponent is 0, and it fits. `None` also if
-    /// the value is missing.
+    /// As `JsonValue::as_i8`. `None` if the value is missing.
     pub fn as_i8(self) -> Option<i8>
         ensures { SomeWhere (integer_in (seen self.entry)) (FitsSigned w8) result }
     {
         self.value?.as_i8()
     }
 
-    /// The number as `JsonValue::as_isize` reads it: its exponent is 0, and it fits. `None` also if
-    /// the value is missing.
+    /// As `JsonValue::as_isize`. `None` if the value is missing.
     pub fn as_isize(self) -> Option<isize>
         ensures { SomeWhere (integer_in (seen self.entry)) (FitsSigned w64) result }
     {
         self.value?.as_isize()
     }
 
-    /// `mantissa * 10 ^ (exponent + point)`, truncated to an integer: with `point` 2, `5.999` is
-    /// 599. `None` if the sign is negative, even that of `-0`, if the result doesn't fit, for NaN,
-    /// and if the value is missing.
+    /// As `JsonValue::as_fixed_point_u64`. `None` if the value is missing.
     pub fn as_fixed_point_u64(self, point: u16) -> Option<u64>
         ensures { SomeWhere (unsigned_fixed_point_in (seen self.entry) point)
             (λ n. n < 2 ^ 64) result }
@@ -342,16 +308,14 @@ impl<'a> View<'a> {
         self.value?.as_fixed_point_u64(point)
     }
 
-    /// `mantissa * 10 ^ (exponent + point)`, truncated to an integer, with its sign: with `point`
-    /// 2, `-5.999` is -599. `None` if the result doesn't fit, for NaN, and if the value is missing.
+    /// As `JsonValue::as_fixed_point_i64`. `None` if the value is missing.
     pub fn as_fixed_point_i64(self, point: u16) -> Option<i64>
         ensures { SomeWhere (fixed_point_in (seen self.entry) point) (FitsSigned w64) result }
     {
         self.value?.as_fixed_point_i64(point)
     }
 
-    /// As `as_fixed_point_u64`, and `None` if a digit other than 0 would be cut: with `point` 2,
-    /// `5.990` is 599, and `5.999` is `None`.
+    /// As `JsonValue::as_exact_fixed_point_u64`. `None` if the value is missing.
     pub fn as_exact_fixed_point_u64(self, point: u16) -> Option<u64>
         ensures { SomeWhere (exact_unsigned_fixed_point_in (seen self.entry) point)
             (λ n. n < 2 ^ 64) result }
@@ -359,22 +323,21 @@ impl<'a> View<'a> {
         self.value?.as_exact_fixed_point_u64(point)
     }
 
-    /// As `as_fixed_point_i64`, and `None` if a digit other than 0 would be cut: with `point` 2,
-    /// `-5.990` is -599, and `-5.999` is `None`.
+    /// As `JsonValue::as_exact_fixed_point_i64`. `None` if the value is missing.
     pub fn as_exact_fixed_point_i64(self, point: u16) -> Option<i64>
         ensures { SomeWhere (exact_fixed_point_in (seen self.entry) point) (FitsSigned w64) result }
     {
         self.value?.as_exact_fixed_point_i64(point)
     }
 
-    /// Whether it is a number equal to this integer: `5e2` equals 500.
+    /// As `JsonValue::eq_i64`.
     pub fn eq_i64(self, other: i64) -> bool
         ensures { result ≡ same (seen self.entry) (number (integer_parts other)) }
     {
         self.value.is_some_and(|value| value.eq_i64(other))
     }
 
-    /// Whether it is a number equal to this integer: `5e2` equals 500.
+    /// As `JsonValue::eq_u64`.
     pub fn eq_u64(self, other: u64) -> bool
         ensures { result ≡ same (seen self.entry) (number (integer_parts (pos other))) }
     {

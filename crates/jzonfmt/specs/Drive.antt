@@ -29,6 +29,7 @@ fault_status NotUtf8 = 1
 fault_status (Json e) = 1
 fault_status _ = 3
 
+-- the exit status of a result
 abbrev pub status_of : {T : Type 0} → Result T RunFault → ℕ
 status_of (Ok _) = 0
 status_of (Err fault) = fault_status fault
@@ -47,9 +48,11 @@ asked_layout (option ∷ spaces ∷ []) =
     if bytes_eq option (codes "--pretty") then option_map Pretty (asked_spaces spaces) else None
 asked_layout _ = None
 
+-- the reading of `parse`, or a strict one
 abbrev pub reading_of : Bool → Reading
 reading_of strict = record usual { strict = strict }
 
+-- the options for a reading and a layout
 abbrev pub asking : Bool → Layout → Options
 asking strict layout = record { reading = reading_of strict; layout = layout }
 

@@ -9,19 +9,22 @@ use Rattle.jzon.specs.Private.Machine.{after_value}
 use Rattle.jzon.specs.declared.cursor.ContainerKind.{ContainerKind}
 use Rattle.jzon.specs.declared.cursor.ContainerKind.TheVariants.{Array, Object}
 
+-- the opening bracket of a container
 abbrev pub opener : ContainerKind → ℕ
 opener Array = begin_array
 opener Object = begin_object
 
+-- the closing bracket
 abbrev pub closer : ContainerKind → ℕ
 closer Array = end_array
 closer Object = end_object
 
+-- the empty array or object
 abbrev pub empty_container : ContainerKind → Value
 empty_container Array = value.array no_values
 empty_container Object = value.object no_pairs
 
--- after the opening bracket of a container in fs
+-- the state after the opening bracket of a container in fs
 abbrev pub after_opener : ContainerKind → Frames → State
 after_opener Array fs = before (array_frame fs [])
 after_opener Object fs = before_key fs []
@@ -32,13 +35,13 @@ innermost_kind no_frames = None
 innermost_kind (array_frame fs vs) = Some Array
 innermost_kind (object_frame fs es k) = Some Object
 
--- after the comma that follows the element or entry with the value v of the innermost container
+-- the state after the comma that follows the element or entry with the value v of the innermost container
 abbrev pub after_comma : Frames → Value → State
 after_comma no_frames v = after_value no_frames v
 after_comma (array_frame fs vs) v = before (array_frame fs (vs ++ v ∷ []))
 after_comma (object_frame fs es k) v = before_key fs (put k v es)
 
--- after its closing bracket
+-- the state after the closing bracket that follows it
 abbrev pub after_closer : Frames → Value → State
 after_closer no_frames v = after_value no_frames v
 after_closer (array_frame fs vs) v = after_value fs (value.array (values_of (vs ++ v ∷ [])))

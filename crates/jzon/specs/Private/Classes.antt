@@ -6,6 +6,7 @@ use Rattle.jzon_base.specs.Tokens.{name_separator, plus_sign, quotation_mark, va
 use Rattle.jzon_tree.specs.Writing.{is_whitespace}
 use Rattle.jzon.specs.Grammar.{Sign, is_exponent_letter}
 
+-- what a character is to the automaton outside of strings and of the later letters of literals
 pub data Class : Type 0 where
   whitespace : Class
   digits : Class
@@ -25,13 +26,15 @@ pub data Class : Type 0 where
   begins_false : Class
   other : Class
 
--- the first letters of the literals (section 3)
+-- the first letter of `null` (section 3)
 abbrev pub letter_n : ℕ
 letter_n = 110
 
+-- of `true`
 abbrev pub letter_t : ℕ
 letter_t = 116
 
+-- of `false`
 abbrev pub letter_f : ℕ
 letter_f = 102
 

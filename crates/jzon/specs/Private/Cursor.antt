@@ -18,14 +18,14 @@ left t p = from t.reading t.source.now p t.index
 abbrev pub next_byte : Cursor → ℕ
 next_byte t = slice_index t.source.now t.index
 
--- after the bytes of a text before offset `end` and the whitespace that follows them
+-- the cursor is after the bytes of a text before offset `end` and the whitespace that follows them
 pub record IsPast (r : Reading) (bytes : List ℕ) (end : ℕ) (t : Cursor) : Type 0 where
   pub text : t.source.now ≡ bytes
   pub reading : t.reading ≡ r
   pub within : end ≤ t.index
   pub same : (p : State) → allows_whitespace p ≡ true → from r bytes p end ≡ left t p
 
--- further on in the same text, in the same reading
+-- the cursor u is further on than t in the same text, in the same reading
 pub record IsAfter (t u : Cursor) : Type 0 where
   pub text : u.source.now ≡ t.source.now
   pub reading : u.reading ≡ t.reading

@@ -25,31 +25,35 @@ pub record OpenContainers : Type 0 where
   pub innermost : Container
   pub around : List Container
 
+-- the entries of an object whose values are read: a repeated key has its first position and its last value
 abbrev pub entries_so_far : Container → EntriesSoFar
 entries_so_far c = viewed (put_each (zip c.keys c.values))
 
+-- the last of these keys
 abbrev pub last_key : List (List ℕ) → List ℕ
 last_key [] = []
 last_key (k ∷ []) = k
 last_key (k ∷ l ∷ ks) = last_key (l ∷ ks)
 
--- the containers fs with this one opened inside, of which a value comes next
+-- the frames fs with this container opened inside, of which a value comes next
 abbrev pub open_as : ContainerKind → Frames → Container → Frames
 open_as Array fs c = array_frame fs (map view c.values)
 open_as Object fs c = object_frame fs (entries_so_far c) (last_key c.keys)
 
+-- the same, by the container's own kind
 abbrev pub open_in : Frames → Container → Frames
 open_in fs c = open_as c.kind fs c
 
+-- the frames of these containers, the innermost first
 abbrev pub frames_in : List Container → Frames
 frames_in [] = no_frames
 frames_in (c ∷ cs) = open_in (frames_in cs) c
 
--- all but the innermost container
+-- the frames of all containers but the innermost
 abbrev pub frames_around : OpenContainers → Frames
 frames_around s = frames_in s.around
 
--- all of them
+-- the frames of all containers
 abbrev pub frames_here : OpenContainers → Frames
 frames_here s = open_in (frames_around s) s.innermost
 
@@ -58,14 +62,16 @@ abbrev pub whole_as : ContainerKind → Container → Value
 whole_as Array c = array (values_of (map view c.values))
 whole_as Object c = object (pairs_of (entries_so_far c))
 
+-- the same, by the container's own kind
 abbrev pub whole : Container → Value
 whole c = whole_as c.kind c
 
--- before an element or a key of the container, inside of fs
+-- the state before an element or a key of the container, inside of fs
 abbrev pub before_item_as : ContainerKind → Frames → Container → State
 before_item_as Array fs c = before (array_frame fs (map view c.values))
 before_item_as Object fs c = before_key fs (entries_so_far c)
 
+-- the state before an element or a key of the innermost container
 abbrev pub before_item : OpenContainers → State
 before_item s = before_item_as s.innermost.kind (frames_around s) s.innermost
 
@@ -79,12 +85,15 @@ abbrev pub AwaitsValue : ContainerKind → Container → Type 0
 AwaitsValue Array c = c.keys ≡ []
 AwaitsValue Object c = length c.keys ≡ length c.values + 1
 
+-- the container with one more value
 abbrev pub with_value : Container → JsonValue → Container
 with_value c v = record { kind = c.kind; keys = c.keys; values = c.values ++ v ∷ [] }
 
+-- a container of this kind with nothing in it yet
 abbrev pub new_container : ContainerKind → Container
 new_container b = record { kind = b; keys = []; values = [] }
 
+-- with one more value in the innermost container
 abbrev pub value_added : OpenContainers → JsonValue → OpenContainers
 value_added s v = record { strict = s.strict; innermost = with_value s.innermost v; around = s.around }
 
@@ -110,7 +119,8 @@ abbrev pub innermost_ended : OpenContainers → OpenContainers
 innermost_ended s =
     record { strict = s.strict; innermost = new_container s.innermost.kind; around = s.around }
 
--- after elements or entries of the innermost container: it ended, or another one that isn't empty was opened in it
+-- the state after elements or entries of the innermost container: it ended, or another one that isn't empty was opened
+-- in it
 abbrev pub after_items : OpenContainers → Option ContainerKind → State
 after_items s None = after_value (frames_around s) (whole s.innermost)
 after_items s (Some b) = after_opener b (frames_here s)
@@ -127,11 +137,12 @@ IsAfterItems t s None = HasAllValues s.innermost.kind s.innermost
 IsAfterItems t s (Some b) =
     AwaitsValue s.innermost.kind s.innermost × (length s.around + 1 < t.reading.depth) × (next_byte t ≢ closer b)
 
--- after a container that ended, of which `outermost` is the value if it was the outermost one
+-- the state after a container that ended, of which `outermost` is the value if it was the outermost one
 abbrev pub after_end : OpenContainers → Option JsonValue → State
 after_end s None = before_item s
 after_end s (Some v) = after_value no_frames (view v)
 
+-- an element or a key comes next, unless the outermost container ended
 abbrev pub IsAfterEnd : Cursor → OpenContainers → Option JsonValue → Type 0
 IsAfterEnd t s None = IsBeforeItem t s
 IsAfterEnd t s (Some v) = Unit {0}

@@ -10,6 +10,8 @@ use Rattle.jzon.specs.declared.cursor.Cursor.{Cursor}
 use Rattle.jzon.specs.declared.parser.Next.{Next}
 use Rattle.jzon.specs.declared.parser.Next.TheVariants.{Item, Opened, End}
 
+-- the state after a value was read: before the next element or key, in a container that was opened, or after the end of
+-- the innermost one
 abbrev pub after_read : OpenContainers → Next → State
 after_read s Item = before_item s
 after_read s (Opened b) = after_items s (Some b)

@@ -17,6 +17,7 @@ abbrev pub containers_in : List Frame → List (List ℕ) → List JsonValue →
 containers_in [] ks vs = []
 containers_in (f ∷ fs) ks vs = container_of f ks vs ∷ containers_in fs (take f.first_key ks) (take f.first_value vs)
 
+-- the open containers that the two stacks and the frames hold
 abbrev pub containers_of : Inside → OpenContainers
 containers_of s = record {
   strict = is_some s.known;
@@ -42,6 +43,8 @@ AllKnown [] ls = Unit {0}
 AllKnown (c ∷ cs) [] = ⊥
 AllKnown (c ∷ cs) (l ∷ ls) = Knows c.keys l × AllKnown cs ls
 
+-- each frame begins within the stacks, where the one around it does or later; each container around another one waits
+-- for a value; and a strict reading knows the keys of all of them
 pub record IsLaidOut (s : Inside) : Type 0 where
   pub keys_within : s.innermost.first_key ≤ vec_len s.keys
   pub values_within : s.innermost.first_value ≤ vec_len s.values

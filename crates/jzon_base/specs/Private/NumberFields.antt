@@ -5,6 +5,7 @@ use Rattle.jzon_base.specs.declared.number.Category.{Category}
 use Rattle.jzon_base.specs.declared.number.Category.TheVariants.{Negative, Positive, Nan}
 use Rattle.jzon_base.specs.declared.number.Number.TheInside.{Inside}
 
+-- the decimal that a category, a mantissa and an exponent represent
 abbrev pub value_at : Category → ℕ → ℤ → Decimal
 value_at Negative m e = parts false m e
 value_at Positive m e = parts true m e
@@ -16,9 +17,11 @@ HasNoParts Negative m e = Unit {0}
 HasNoParts Positive m e = Unit {0}
 HasNoParts Nan m e = (m ≡ 0) × (e ≡ pos 0)
 
+-- the fields of a `Number`; the gaps are 0
 abbrev pub fields_at : Category → ℕ → ℤ → Inside
 fields_at c m e = record { category = c; narrow_gap = 0; exponent = e; wide_gap = 0; mantissa = m }
 
+-- the fields that represent a decimal
 abbrev pub fields_of : Decimal → Inside
 fields_of nan = fields_at Nan 0 (pos 0)
 fields_of (parts true m e) = fields_at Positive m e

@@ -12,10 +12,12 @@ use Rattle.std.proofs.Math.Nat.{lt_irrefl, one-le-mul, one-le-pow, suc-ne-zero, 
 use Rattle.std.proofs.lemmas.Bool.{ne_eqb}
 use Rattle.jzon_base.specs.Decimal.{Decimal, nan, parts, same, scaled, shifted}
 
+-- with the mantissa 0 it is 0
 pub scaled-zero : (m : ℕ) (e : ℤ) → m ≡ 0 → scaled m e ≡ 0
 unfolding scaled
 scaled-zero m e h = ap (λ n. n * 10 ^ shifted e) h ∙ zero-mul (10 ^ shifted e)
 
+-- with another mantissa it is above 0
 pub scaled-pos : (m : ℕ) (e : ℤ) → 0 < m → 0 < scaled m e
 unfolding scaled
 scaled-pos m e h = one-le-mul h (one-le-pow (shifted e) 10 (lit≤ tt))
@@ -76,5 +78,6 @@ same-by-key (parts s (suc m) e) (parts t zero f) =
 same-by-key (parts s (suc m) e) (parts t (suc n) f) =
     ap (λ z. (z && nat_eq (suc n) 0) || (beq s t && nat_eq (scaled (suc m) e) (scaled (suc n) f))) (not_zero m)
 
+-- `same` is an equivalence
 pub same_equiv : IsEquivalence same
 same_equiv = subst IsEquivalence (λ i x y. sym (same-by-key x y) i) (on_equiv key same_key_equiv)

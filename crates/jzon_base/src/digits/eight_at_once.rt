@@ -1,5 +1,4 @@
-//! Reads up to eight digits at once, as the bytes of a 64-bit word. In clauses, `digits_number` is
-//! the number that digits spell, and `values_number` that of digits given by their values, 0 to 9.
+//! Reads up to eight digits at once, as the bytes of a 64-bit word.
 
 ghost use Rattle.std.specs.Prelude.{◌≡◌, ℕ, List, ◌+◌, ◌-◌, ◌*◌, ◌%◌, ◌^◌, ◌<◌, ◌≤◌, drop, length, take};
 ghost use Rattle.std.specs.Char.{is_ascii_digit};
@@ -25,7 +24,6 @@ const POWERS_OF_TEN: [u64; 9] = [
     100_000_000,
 ];
 
-/// `10 ^ n`, from a table.
 #[inline(always)]
 pub(crate) fn ten_to(n: usize) -> u64
     requires { n ≤ 8 }
@@ -64,8 +62,8 @@ fn last_bytes(word: u64, count: u32) -> u64
 }
 
 /// The number that eight digits spell, given by their values in the bytes of a word, the first in
-/// the lowest byte: digits are joined two by two, then four by four, then all eight. In the clause
-/// these values are `ds`, and `number_l 256 ds` is the word with these bytes.
+/// the lowest byte (`ds` in the clause): digits are joined two by two, then four by four, then all
+/// eight.
 #[inline(always)]
 fn number_of_eight(word: u64) -> u64
     ensures { (ds : List ℕ) → length ds ≡ 8 → All (λ d. d < 10) ds → word ≡ number_l 256 ds

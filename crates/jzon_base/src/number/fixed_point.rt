@@ -1,13 +1,5 @@
 //! Numbers as fixed-point integers (docs/RULES.md, "Fixed-point readings"): `mantissa * 10 ^
 //! (exponent + point)`, so that `point` is the number of decimal places that are kept.
-//!
-//! In clauses, `fixed_point` and `unsigned_fixed_point` are these integers, however large; there is
-//! none for NaN, nor an unsigned one for a negative sign. Those that begin with `exact_` are there
-//! only if no digit but zeros is lost: if `is_whole_at` is true. `SomeWhere o P r` says that `r` is
-//! `Some` of the integer in `o`, if there is one and `P` holds of it, and else `None`. `FitsSigned
-//! w64` says that an integer fits in an `i64`. `integer_at n point` is the number `n * 10 ^
-//! -point`, which has an exponent of 16 bits if `point` is at most 32768. `IsExactAt d point` says
-//! that, at such a point, this number equals `d`, if `n` is the integer of `d`.
 
 ghost use Rattle.std.specs.Prelude.{◌≡◌, pos, ◌/◌, ◌%◌, ◌==◌, ◌+ℤ◌, ◌<◌, ◌≤◌, ◌^◌, FitsSigned, IfSome, IsTrue, true};
 ghost use Rattle.std.specs.Int.{w64};

@@ -1,7 +1,5 @@
 //! Integers as numbers (docs/RULES.md, "Calls on numbers"). The mantissa is the magnitude, and the
-//! exponent 0. In clauses, `integer_parts n` is this number (`pos n` is an unsigned `n` as an
-//! integer), and `same` the equality of numbers. The ghost member `from_gives` says what `from`
-//! returns.
+//! exponent 0; 0 is positive.
 
 ghost use Rattle.std.specs.Prelude.{◌≡◌, pos, true};
 ghost use Rattle.jzon_base.specs.Decimal.{integer_parts, same};
@@ -16,7 +14,7 @@ impl Number {
         *self == Number::from(value)
     }
 
-    /// Whether this equals the integer `value`, whatever its parts are: `5e2` equals 500.
+    /// As `eq_i64`.
     pub fn eq_u64(&self, value: u64) -> bool
         ensures { result ≡ same self.now (integer_parts (pos value)) }
     {
@@ -24,7 +22,6 @@ impl Number {
     }
 }
 
-/// The number that the integer is.
 impl From<u8> for Number {
     ghost from_gives = { λ n number. number ≡ integer_parts (pos n) };
 
@@ -33,7 +30,6 @@ impl From<u8> for Number {
     }
 }
 
-/// The number that the integer is.
 impl From<u16> for Number {
     ghost from_gives = { λ n number. number ≡ integer_parts (pos n) };
 
@@ -42,7 +38,6 @@ impl From<u16> for Number {
     }
 }
 
-/// The number that the integer is.
 impl From<u32> for Number {
     ghost from_gives = { λ n number. number ≡ integer_parts (pos n) };
 
@@ -51,7 +46,6 @@ impl From<u32> for Number {
     }
 }
 
-/// The number that the integer is.
 impl From<u64> for Number {
     ghost from_gives = { λ n number. number ≡ integer_parts (pos n) };
 
@@ -60,7 +54,6 @@ impl From<u64> for Number {
     }
 }
 
-/// The number that the integer is.
 impl From<usize> for Number {
     ghost from_gives = { λ n number. number ≡ integer_parts (pos n) };
 
@@ -69,7 +62,6 @@ impl From<usize> for Number {
     }
 }
 
-/// The number that the integer is. 0 is positive.
 impl From<i8> for Number {
     ghost from_gives = { λ n number. number ≡ integer_parts n };
 
@@ -78,7 +70,6 @@ impl From<i8> for Number {
     }
 }
 
-/// The number that the integer is. 0 is positive.
 impl From<i16> for Number {
     ghost from_gives = { λ n number. number ≡ integer_parts n };
 
@@ -87,7 +78,6 @@ impl From<i16> for Number {
     }
 }
 
-/// The number that the integer is. 0 is positive.
 impl From<i32> for Number {
     ghost from_gives = { λ n number. number ≡ integer_parts n };
 
@@ -96,7 +86,6 @@ impl From<i32> for Number {
     }
 }
 
-/// The number that the integer is. 0 is positive.
 impl From<i64> for Number {
     ghost from_gives = { λ n number. number ≡ integer_parts n };
 
@@ -105,7 +94,6 @@ impl From<i64> for Number {
     }
 }
 
-/// The number that the integer is. 0 is positive.
 impl From<isize> for Number {
     ghost from_gives = { λ n number. number ≡ integer_parts n };
 

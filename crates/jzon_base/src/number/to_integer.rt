@@ -1,11 +1,6 @@
 //! Numbers as integers (docs/RULES.md, "Integer readings"). Only a number of exponent 0 is one, its
 //! mantissa with its sign: `1.0`, `5e2` and `100e-2` aren't. For these there is
 //! `as_exact_fixed_point_u64(0)`.
-//!
-//! In clauses, `integer_of` is this integer, if the number is one, and `unsigned_of` is it if the
-//! sign is positive too. `OkWhere o P r` says that `r` is `Ok` of the integer in `o`, if there is
-//! one and `P` holds of it, and else an `Err`. `FitsSigned w8` says that an integer fits in an
-//! `i8`, and so on. The ghost member `try_from_gives` says what `try_from` returns.
 
 ghost use Rattle.std.specs.Prelude.{◌<◌, ◌^◌, FitsSigned};
 ghost use Rattle.std.specs.Int.{w8, w16, w32, w64};
@@ -15,7 +10,8 @@ ghost use Rattle.jzon_base.specs.Decimal.{integer_of, signed, unsigned_of, OkWhe
 use super::Number;
 
 /// The number can't be converted into an integer of the type: it is NaN, its exponent isn't 0, as
-/// that of `1.0` and `1e2`, its sign is negative and the type is unsigned, or it doesn't fit.
+/// that of `1.0` and `1e2`, its sign is negative, even that of -0, and the type is unsigned, or it
+/// doesn't fit.
 #[derive(Clone, Copy, Debug, PartialEq)]
 pub struct NumberOutOfScope;
 
@@ -57,8 +53,6 @@ pub(super) fn with_sign(positive: bool, magnitude: u64) -> Option<i64>
     }
 }
 
-/// `NumberOutOfScope` for NaN, a negative sign, even of -0, an exponent other than 0, and a number
-/// above `u8::MAX`.
 impl TryFrom<Number> for u8 {
     type Error = NumberOutOfScope;
 
@@ -69,8 +63,6 @@ impl TryFrom<Number> for u8 {
     }
 }
 
-/// `NumberOutOfScope` for NaN, a negative sign, even of -0, an exponent other than 0, and a number
-/// above `u16::MAX`.
 impl TryFrom<Number> for u16 {
     type Error = NumberOutOfScope;
 
@@ -81,8 +73,6 @@ impl TryFrom<Number> for u16 {
     }
 }
 
-/// `NumberOutOfScope` for NaN, a negative sign, even of -0, an exponent other than 0, and a number
-/// above `u32::MAX`.
 impl TryFrom<Number> for u32 {
     type Error = NumberOutOfScope;
 
@@ -93,8 +83,6 @@ impl TryFrom<Number> for u32 {
     }
 }
 
-/// `NumberOutOfScope` for NaN, a negative sign, even of -0, an exponent other than 0, and a number
-/// above `u64::MAX`.
 impl TryFrom<Number> for u64 {
     type Error = NumberOutOfScope;
 
@@ -105,8 +93,6 @@ impl TryFrom<Number> for u64 {
     }
 }
 
-/// `NumberOutOfScope` for NaN, a negative sign, even of -0, an exponent other than 0, and a number
-/// above `usize::MAX`.
 impl TryFrom<Number> for usize {
     type Error = NumberOutOfScope;
 
@@ -117,7 +103,6 @@ impl TryFrom<Number> for usize {
     }
 }
 
-/// `NumberOutOfScope` for NaN, an exponent other than 0, and a number that an `i8` can't hold.
 impl TryFrom<Number> for i8 {
     type Error = NumberOutOfScope;
 
@@ -128,7 +113,6 @@ impl TryFrom<Number> for i8 {
     }
 }
 
-/// `NumberOutOfScope` for NaN, an exponent other than 0, and a number that an `i16` can't hold.
 impl TryFrom<Number> for i16 {
     type Error = NumberOutOfScope;
 
@@ -139,7 +123,6 @@ impl TryFrom<Number> for i16 {
     }
 }
 
-/// `NumberOutOfScope` for NaN, an exponent other than 0, and a number that an `i32` can't hold.
 impl TryFrom<Number> for i32 {
     type Error = NumberOutOfScope;
 
@@ -150,7 +133,6 @@ impl TryFrom<Number> for i32 {
     }
 }
 
-/// `NumberOutOfScope` for NaN, an exponent other than 0, and a number that an `i64` can't hold.
 impl TryFrom<Number> for i64 {
     type Error = NumberOutOfScope;
 
@@ -161,7 +143,6 @@ impl TryFrom<Number> for i64 {
     }
 }
 
-/// `NumberOutOfScope` for NaN, an exponent other than 0, and a number that an `isize` can't hold.
 impl TryFrom<Number> for isize {
     type Error = NumberOutOfScope;
 

@@ -1,9 +1,5 @@
 //! Escapes in strings (RFC 8259, section 7): the letters of simple escapes and hexadecimal digits,
 //! as they are read and as they are printed. What is printed is read back: the clauses `read_back`.
-//!
-//! In clauses, `is_simple` is true of the letters of simple escapes (`"`, `\`, `/`, `b`, `f`, `n`,
-//! `r` and `t`), `unescaped letter` is the byte that a backslash means before this letter, and
-//! `letter_of byte` is the letter that is printed for a byte, or 0.
 
 ghost use Rattle.std.specs.Prelude.{◌≡◌, ◌<◌, IsTrue, IfSome};
 ghost use Rattle.std.specs.Char.{is_ascii_hexdigit, digit_char, digit_value};
@@ -43,7 +39,7 @@ static ESCAPE_LETTERS: [u8; 96] = [
     0, 0, 0, 0, 0, 0, 0, 0, 0, 0, 0, 0, b'\\', 0, 0, 0,
 ];
 
-/// The entry of a byte that is no digit.
+/// Stands for a byte that is no digit.
 const NONE: u8 = 255;
 
 /// The value of each byte that is a hexadecimal digit, and `NONE` for all others.

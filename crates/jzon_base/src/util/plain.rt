@@ -1,5 +1,5 @@
-//! Finds the first byte that needs an escape (RFC 8259, section 7). In clauses, `is_plain` holds of
-//! a byte that needs none, and `prefix_len is_plain bytes` is how many such bytes come first.
+//! Finds the first byte that needs an escape (RFC 8259, section 7), many bytes at once. A byte that
+//! needs none is *plain*.
 
 ghost use Rattle.std.specs.Prelude.{◌≡◌, ◌+◌, ◌<◌, ◌≤◌, drop, length, take, IsTrue};
 ghost use Rattle.std.specs.Int.{w64, trailing_zeros};
@@ -8,15 +8,15 @@ ghost use Rattle.jzon_base.specs.Private.PlainBytes.{is_plain};
 
 use std::simd::prelude::*;
 
-/// The bytes of a block, which are compared at once.
+/// How many bytes are compared at once.
 const BLOCK: usize = 32;
 
-/// The bytes of half a block.
+/// Half a block.
 const HALF: usize = 16;
 
 /// The length of the longest prefix of bytes that a string of a text has unescaped: from 32 on, and
-/// neither a quote nor a backslash. Most strings end within half a block, which is compared here
-/// without a call, if there are 16 bytes.
+/// neither a quote nor a backslash. Most strings end within `HALF` bytes, which are compared here
+/// without a call.
 #[inline(always)]
 pub fn plain_len(bytes: &[u8]) -> usize
     ensures { result ≡ prefix_len is_plain bytes.now }
@@ -126,9 +126,7 @@ fn plain_in_lanes<const N: usize>(bytes: &[u8], start: usize) -> usize
     }
 }
 
-/// Which of the `N` bytes at an offset need an escape, a bit for each. The clauses say that none
-/// does if no bit is set, and else that the lowest bit that is set is that of the first byte that
-/// does.
+/// Which of the `N` bytes at an offset need an escape, a bit for each, the first byte's lowest.
 #[inline(always)]
 fn escapes_in_lanes<const N: usize>(bytes: &[u8], start: usize) -> u64
     requires few { N ≤ 32 }

@@ -1,10 +1,5 @@
-//! Options, lists and maps as values. The text of a map's key is the key of an entry.
-//!
-//! In clauses, `T.means x v` says that the content `x` means the value `v`. From this
-//! `OptionMeans`, `ListMeans` and `MapMeans` say what an option, a list and a map mean.
-//! `CloneListMeans` is `ListMeans` for clones of the elements, and `AnyOrderMeans` is `MapMeans`
-//! for the entries in some order. `string_bytes` and `λ key. key.now` are the text of a key.
-//! `is_free` is `⊥` if no conversion is promised to succeed: an array or an object needs memory.
+//! Options, lists and maps as values. The text of a map's key is the key of an entry. `is_free` is
+//! `⊥` where no conversion is promised to succeed: an array or an object needs memory.
 
 ghost use Rattle.std.specs.Prelude.{⊤, string_bytes, MatchOption};
 ghost use Rattle.jzon_tree.specs.IntoJson.{OptionMeans, ListMeans, CloneListMeans, MapMeans, AnyOrderMeans};

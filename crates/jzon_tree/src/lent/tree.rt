@@ -1,18 +1,5 @@
-//! Mutable references from a type to nodes of another: the checker proves what is written back
-//! through these, but not through one from a type to itself (docs/DECISIONS.md, "What can't be had
-//! today").
-//!
-//! A clause `writes_back` says what the tree is once the returned reference is no longer used.
-//! `Lends R S tree result after` says that it is `after w`, where `w` is the last value to which
-//! the reference refers; `R` and `S` are the types of the tree and of that value, each named by its
-//! `row`. `LendsIf` and `LendsIfOk` say this of `Some` and of `Ok`. Their last argument is what the
-//! tree is at `None` or at `Err`. `LendsSoOk` has relations in place of `after` and of this value.
-//!
-//! Other words of clauses: `with_place null items index` are the elements once there is one for the
-//! index (`make_place` says how), and `place_in items index` is the position of this one.
-//! `with_default k v entries` are the entries, with (k, v) last if the key `k` is missing; `put k v
-//! entries` also replaces the value of a key that is there, and `find k entries` is this value. A
-//! clause `present` says that only a call for a missing key or element can fail.
+//! The bodies of `get_mut`, `at_mut` and `at_index_mut`, as calls of a trait whose nodes are of
+//! another type than the tree.
 
 ghost use Rattle.std.specs.Prelude.{◌≡◌, ◌≤◌, ◌<◌, List, ℕ, [], length, slice_get, slice_set, IfOk, IfSome, OnOk, OnErr, IsOkUnless, IsSome, MatchOption, Option, None, Some};
 ghost use Rattle.std.specs.Borrow.{sem, Lends, LendsIf, LendsIfOk, LendsSoOk};
@@ -69,8 +56,7 @@ pub trait Tree {
             (λ lent. (lent.now ≡ pairs self.old) × (object (pairs self.old) ≡ self.old)) };
 
     /// Makes the value an object that has the key, and returns its position: what isn't an object
-    /// becomes an empty one, and then a missing key is put last, with null. Fails only with
-    /// `OutOfMemory`, and then nothing has changed.
+    /// becomes an empty one, and then a missing key is put last, with null.
     fn make_key(&mut self, alloc: Global, key: &str) -> Result<usize>
         ensures position { IfOk result (λ i. position (λ k. bytes_eq k key.now)
             (keys_of (with_default key.now null (pairs self.old))) ≡ Some i) }
@@ -81,7 +67,7 @@ pub trait Tree {
 
     /// Makes the value an array that has an element for the index: past its end an array gains one
     /// null, whatever the index, and any other value becomes `[null]` for the index 0, else
-    /// `[null,null]`. Fails only with `OutOfMemory`, and then the value means what it meant.
+    /// `[null,null]`.
     fn make_place(&mut self, alloc: Global, index: usize) -> Result<()>
         ensures ok { OnOk result (items self.new ≡ Some (with_place null (items self.old) index)) }
         ensures err { OnErr result (meaning self.new ≡ meaning self.old) }
@@ -95,7 +81,7 @@ pub trait Tree {
             (vec_row Self.Node.row) self.entry result array) }
         ensures value { Some result.now.items ≡ items self.old };
 
-    /// The node of an object's key. A write through it changes nothing else.
+    /// The node of an object's key.
     final fn get_in(&mut self, key: &str) -> Option<&mut Self::Node>
         ensures* writes_back { sem 𝓛 (LendsIf Self.row Self.Node.row self.entry result
             (λ w. object (put key.now w (pairs self.old))) self.old) }
@@ -105,8 +91,7 @@ pub trait Tree {
         pairs.get_mut(key)
     }
 
-    /// The node of an object's key, which is added if it is missing. A write through it changes
-    /// nothing else. Fails only with `OutOfMemory`, and then nothing has changed.
+    /// The node of an object's key, which is added if it is missing.
     final fn at_in(&mut self, alloc: Global, key: &str) -> Result<&mut Self::Node>
         ensures* writes_back { sem 𝓛 (LendsIfOk Self.row Self.Node.row self.entry result
             (λ w. object (put key.now w (pairs self.old))) self.old) }
@@ -123,8 +108,7 @@ pub trait Tree {
         }
     }
 
-    /// The element of an array for an index, which is added if it is missing. Fails only with
-    /// `OutOfMemory`, and then the value means what it meant.
+    /// The element of an array for an index, which is added if it is missing.
     #[tactic(auto, using(crate::proofs::Values::LentPositions::place_is))]
     final fn at_index_in(&mut self, alloc: Global, index: usize) -> Result<&mut Self::Node>
         ensures* writes_back { sem 𝓛 (LendsSoOk Self.row Self.Node.row self.entry result

@@ -1,18 +1,7 @@
-//! Writes into a value, by calls whose contracts say what the value is afterwards. In these, `view
-//! v` is the value for which the `JsonValue` `v` stands, as plain data. `entries` are the entries
-//! of an object, and none of any other value; `items_of` are the elements, if it is an array.
-//! `object (pairs_of ..)` and `array (values_of ..)` are the object and the array of a list. `find
-//! k entries` is the value of the key `k`, and `put k v entries` are the entries with this value,
-//! at the key's position or else last. `with_place null items index` are the elements once there is
-//! one for the index: past the end one null is appended, and a value that isn't an array becomes
-//! `[null]` for index 0 and `[null,null]` for any other. `place_in items index` is the position of
-//! this element, or of the last null. A clause `present` says that only a call for a missing key or
-//! element can fail.
-//!
-//! A function `.._in` does the same for any type of the trait `Tree`, whose nodes are its values:
-//! `T.pairs` are the entries of an object, `T.object` is the object of some entries, `T.items` are
-//! the elements of an array, `T.null` is the null node, and `T.meaning` is what the value means.
-//! The checker proves a write through a reference only if its type isn't that of the receiver.
+//! Writes into a value, by calls whose contracts say what the value is afterwards; a caller's proof
+//! doesn't learn this of a write through a reference. A function `.._in` does the same for any type
+//! of the trait `Tree`, because the checker proves a write through a reference only if its type
+//! isn't that of the receiver.
 #![tactic(auto, using(crate::proofs::Values::WriteViews::written))]
 
 ghost use Rattle.std.specs.Prelude.{◌≡◌, ◌≤◌, length, slice_set, IfSome, OnOk, OnErr, IsOkUnless, MatchOption, is_some, None, Some, true, false};
@@ -72,7 +61,7 @@ pub fn write_at_index(
     write_at_index_in(value, alloc, index, item)
 }
 
-/// `write_present` for any tree: returns whether the key is present, and writes only then.
+/// `write_present` for any tree.
 fn write_present_in<T: Tree>(tree: &mut T, key: &str, value: T::Node) -> bool
 where
     T::Node: Drop,
@@ -89,7 +78,7 @@ where
     }
 }
 
-/// `write_at` for any tree. At `Err` nothing has changed.
+/// `write_at` for any tree.
 fn write_at_in<T: Tree>(tree: &mut T, alloc: Global, key: &str, value: T::Node) -> Result<()>
 where
     T::Node: Drop,
@@ -102,7 +91,7 @@ where
     Ok(())
 }
 
-/// `write_at_index` for any tree. At `Err` the tree means what it meant.
+/// `write_at_index` for any tree.
 fn write_at_index_in<T: Tree>(
     tree: &mut T,
     alloc: Global,

@@ -1,10 +1,4 @@
 //! The entries of an object by their positions, so that a loop can change each value in place.
-//!
-//! A clause `writes_back` says what the receiver is once a returned `&mut` is no longer used.
-//! `LendsIf .. result f x` says that at `Some` it is `f w`, for the last value `w` to which the
-//! reference referred, and `x` at `None`. `entries_of object` are its entries, `set_value entries
-//! index w` are these with `w` as the value at the position, and `with_entries` makes the object of
-//! them.
 
 ghost use Rattle.std.specs.Prelude.{◌≡◌, slice_get, option_map};
 ghost use Rattle.std.specs.Option.{option_copied_mut};

@@ -1,9 +1,5 @@
-//! The texts of objects (docs/RULES.md, "Layouts"). In clauses, `view_object` is the object as
-//! plain data, and `compact v` and `pretty v spaces 0` are texts of such data. `Writes style 0 v`
-//! holds of each text of `v` that the style allows. The 0 is the number of containers around `v`.
-//! `nest v` is its depth: how many non-empty containers nest in it. `IsValue v` says what the types
-//! of its parts promise: numbers in range, strings of UTF-8, distinct keys. The laws on reading
-//! back need this, so calls that print ensure it.
+//! The texts of objects (docs/RULES.md, "Layouts"). Calls that print ensure `IsValue` too, because
+//! the laws on reading back need it.
 
 ghost use Rattle.std.specs.Prelude.{◌≡◌, ◌<◌, ◌≤◌, ◌^◌, IfOk, IsOkUnless, string_bytes};
 ghost use Rattle.jzon_tree.specs.Lawful.{IsValue};

@@ -1,12 +1,4 @@
 //! Reading values as integers (docs/RULES.md, "Integer readings" and "Fixed-point readings").
-//!
-//! In clauses, `view v` is the value for which the `JsonValue` `v` stands, as plain data.
-//! `SomeWhere o P r` says that `r` is `Some` of the integer in `o`, if there is one and `P` holds
-//! of it, and else `None`. `integer_in v` is the integer, of any size, if `v` is a number with the
-//! exponent 0, and `unsigned_in v` is the same if its sign is positive too. A definition such as
-//! `unsigned_fixed_point_in v point` is what the reading of that name gives, if it gives an
-//! integer, of any size. `FitsSigned w64` holds of the integers of 64 bits. `number (integer_parts
-//! n)` is the number of the integer `n`, with the exponent 0, and `same` compares as `==` does.
 
 ghost use Rattle.std.specs.Prelude.{◌≡◌, ◌<◌, ◌^◌, pos, FitsSigned};
 ghost use Rattle.std.specs.Int.{w8, w16, w32, w64};
@@ -148,7 +140,7 @@ impl JsonValue {
         self.as_number().is_some_and(|number| number.eq_i64(other))
     }
 
-    /// Whether it is a number equal to this integer: `5e2` equals 500.
+    /// As `eq_i64`.
     pub fn eq_u64(&self, other: u64) -> bool
         ensures { result ≡ same (view self.now) (number (integer_parts (pos other))) }
     {

@@ -1,11 +1,6 @@
 //! Goes over all parts of a value. The type of each part promises something (a number in range, a
 //! string of UTF-8, distinct keys), and the proof learns it where the part is read; after the walk
-//! it is known of all parts. The functions with `#[cycle(inspect)]` call one another.
-//!
-//! In clauses, `view`, `view_object` and `view_values` are a value, an object and elements as plain
-//! data, and `array (values_of vs)` is the array of the list `vs`. `IsValue v` says what the types
-//! promise of all parts of `v`, and `InRange` of a number. `HasNoNan v` says that no number in `v`
-//! is NaN, and `nest v` is the depth of `v`: how many non-empty containers nest in it.
+//! it is known of all parts.
 
 ghost use Rattle.std.specs.Prelude.{◌≡◌, ◌<◌, ◌≤◌, ◌^◌, ◌∷◌, ◌++◌, ◌↔◌, [], List, IsTrue};
 ghost use Rattle.jzon_tree.specs.Private.Inspected.{IsInspected};
@@ -18,8 +13,7 @@ use crate::value::JsonValue;
 use jzon_base::error::Error;
 use jzon_base::number::Number;
 
-/// What was found in a value. `IsInspected v nan nest` in a clause says that `v` is a value
-/// (`IsValue`), that `nan` says whether a number in it is NaN, and that `nest` is its depth.
+/// What was found in a value.
 #[derive(Clone, Copy)]
 pub(crate) struct Inspection {
     /// Whether a number in it is NaN.

@@ -29,18 +29,23 @@ use Rattle.jzon_base.specs.contracts.pairs.Pairs.TheInside as I
 use Rattle.jzon_base.specs.contracts.pairs.contents.Contents as T
 use Rattle.jzon_base.specs.formers.pairs.contents.Contents as entries
 
+-- the former: entries with g's values
 abbrev pub the_former : Former {0} → Former {0}
 the_former = entries.the_former
 
+-- their weight is the greatest of a value
 abbrev pub the_weighed : {g : Former {0}} → Weighed g → Weighed (the_former g)
 the_weighed = entries.the_weighed
 
+-- the entries of no values
 pub the_empty : List (List ℕ × ⊥)
 the_empty = []
 
+-- the values of the entries
 abbrev pub the_items : (X : Type 0) → List (List ℕ × X) → List X
 the_items = entries.the_items
 
+-- the children that the former lists are these values
 pub the_items_listed : (X : Type 0) (ps : List (List ℕ × X))
     → listed _ (children (the_former this) X ps) ≡ the_items X ps
 the_items_listed = entries.the_items_listed

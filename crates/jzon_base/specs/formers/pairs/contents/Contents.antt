@@ -32,6 +32,7 @@ entry g = pair (const (List ℕ)) g
 abbrev on_value : {X Y : Type 0} → (X → Y) → List ℕ × X → List ℕ × Y
 on_value h p = (p.0, h p.1)
 
+-- the former: entries with g's values
 abbrev pub the_former : Former {0} → Former {0}
 the_former g = list (entry g)
 
@@ -39,6 +40,7 @@ most_values : {K Y : Type 0} (f : Y → ℕ) (es : List (K × Y)) → most (λ p
 most_values f [] = refl
 most_values f (e ∷ es) = λ i. max (sym (none_max (f e.1)) i) (most_values f es i)
 
+-- entries are put into a row as deep as their heaviest value is
 pub entries_puts : {g : Former {0}} (w : Weighed g) (X : Type 0) (μ : X → ℕ) (es : List (List ℕ × g.Of X)) (n : Count)
     (t : Row X n)
     → deepest μ (list_count (entry g) (map ((entry g).shape X) es) n) (list_put (entry g) X es n t)
@@ -46,15 +48,19 @@ pub entries_puts : {g : Former {0}} (w : Weighed g) (X : Type 0) (μ : X → ℕ
 entries_puts w X μ es n t = List-puts (w_pair (w_const (List ℕ)) w) X μ es n t
     ∙ ap (λ a. max a (deepest μ n t)) (most_values (w.weight X μ) es)
 
+-- their weight is the greatest of a value
 abbrev pub the_weighed : {g : Former {0}} → Weighed g → Weighed (the_former g)
 the_weighed w = record { weight = λ X μ c. most (w.weight X μ) (values_of c); puts = λ X μ c. entries_puts w X μ c }
 
+-- the entries of no values
 pub the_empty : List (List ℕ × ⊥)
 the_empty = []
 
+-- the values of the entries
 abbrev pub the_items : (X : Type 0) → List (List ℕ × X) → List X
 the_items X ps = values_of ps
 
+-- the children that the former lists are these values
 pub the_items_listed : (X : Type 0) (ps : List (List ℕ × X))
     → listed _ (children (the_former this) X ps) ≡ the_items X ps
 the_items_listed X [] = refl
