@@ -20,6 +20,7 @@ Spells r t d = IsDocument r d × (spell r d ≡ t)
 abbrev pub Completes : Reading → List ℕ → Document → Type 0
 Completes r prefix d = IsDocument r d × (rest : List ℕ) × (spell r d ≡ prefix ++ rest)
 
+-- some text of the grammar begins with the prefix; it may exceed limits
 abbrev pub HasCompletion : Reading → List ℕ → Type 0
 HasCompletion r prefix = (d : Document) × Completes r prefix d
 
@@ -33,6 +34,7 @@ Parses r t d = Spells r t d × HasNoBreach r d
 
 -- ---- faults
 
+-- what is wrong with a text at an offset
 pub data Fault : Type 0 where
   -- a limit is broken
   limit : Breach → Fault

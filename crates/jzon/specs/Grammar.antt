@@ -48,6 +48,7 @@ pub record Key : Type 0 where
 -- Values (section 3), arrays (section 5) and objects (section 4). Each `List ℕ` is whitespace: inside an empty
 -- container, before and after a value.
 mutual
+  -- a value
   pub data Node : Type 0 where
     null : Node
     boolean : Bool → Node

@@ -29,9 +29,11 @@ pub record Cell : Type 0 where
   pub char : ℕ
   pub mark : Option Breach
 
+-- a character with its breach, if any
 abbrev pub cell : ℕ → Option Breach → Cell
 cell c m = record { char = c; mark = m }
 
+-- this breach, if the condition holds
 abbrev pub breach_if : Bool → Breach → Option Breach
 breach_if t b = if t then Some b else None
 
@@ -69,45 +71,54 @@ digits_cells too_many prefix [] k = k
 digits_cells too_many prefix (d ∷ ds) k =
     cell d (breach_if (too_many (onto (d ∷ prefix) [])) digit) ∷ digits_cells too_many (d ∷ prefix) ds k
 
--- with the breach at the first digit
+-- the digits before the point, with the breach m at the first
 abbrev pub whole_cells : List ℕ → Option Breach → List Cell → List Cell
 whole_cells [] m k = k
 whole_cells (d ∷ ds) m k = cell d m ∷ digits_cells drops_too_many (d ∷ []) ds k
 
+-- the point and the digits after it, if there are any; `whole` are the digits before it
 abbrev pub fraction_cells : List ℕ → List ℕ → List Cell → List Cell
 fraction_cells whole [] k = k
 fraction_cells whole (d ∷ ds) k = cell decimal_point None ∷ digits_cells (keeps_too_many whole) [] (d ∷ ds) k
 
+-- the sign of an exponent
 abbrev pub sign_cells : Sign → List Cell → List Cell
 sign_cells unsigned k = k
 sign_cells plus k = cell plus_sign None ∷ k
 sign_cells minus k = cell minus_sign None ∷ k
 
+-- the letter of an exponent, its sign and its digits
 abbrev pub exponent_cells : Option Exponent → List Cell → List Cell
 exponent_cells None k = k
 exponent_cells (Some e) k = cell e.letter None ∷ sign_cells e.sign (plain e.digits k)
 
+-- a number without its minus, with the breach m at the first digit
 abbrev pub magnitude_cells : Numeral → Option Breach → List Cell → List Cell
 magnitude_cells n m k = whole_cells n.whole m (fraction_cells n.whole n.fraction (exponent_cells n.exponent k))
 
+-- a number, with the breach m at its first character
 abbrev pub numeral_cells : Numeral → Option Breach → List Cell → List Cell
 numeral_cells n m k = if n.negative then cell minus_sign m ∷ magnitude_cells n None k else magnitude_cells n m k
 
 -- ---- strings
 
+-- a backslash and the `u`
 abbrev pub escape_cells : List Cell → List Cell
 escape_cells k = cell escape None ∷ cell 117 None ∷ k
 
+-- a part of a string
 abbrev pub item_cells : Item → List Cell → List Cell
 item_cells (grammar.plain c) k = cell c None ∷ k
 item_cells (simple c) k = cell escape None ∷ cell c None ∷ k
 item_cells (single u) k = escape_cells (plain u k)
 item_cells (double u v) k = escape_cells (plain u (escape_cells (marked_last v (breach_if (not (is_pair u v)) pair) k)))
 
+-- the parts of a string
 abbrev pub items_cells : List Item → List Cell → List Cell
 items_cells [] k = k
 items_cells (i ∷ is) k = item_cells i (items_cells is k)
 
+-- how many characters the parts of a string have
 abbrev pub items_length : List Item → ℕ
 items_length is = length (items_cells is [])
 
@@ -146,18 +157,20 @@ abbrev mutual
       cell begin_object m ∷ key_cells r [] key (deep_if r depth)
       (plain b (node_cells r n (suc depth) None (plain c (members_cells r ms (bytes_of key.items ∷ []) (suc depth) k))))
 
+  -- the remaining elements of an array, and its closing bracket
   pub elements_cells : Reading → Elements → ℕ → List Cell → List Cell
   elements_cells r no_elements depth k = cell end_array None ∷ k
   elements_cells r (element b n c es) depth k =
       cell value_separator None ∷ plain b (node_cells r n depth None (plain c (elements_cells r es depth k)))
 
-  -- `seen` are the keys before
+  -- the remaining entries of an object, and its closing bracket; `seen` are the keys before
   pub members_cells : Reading → Members → List (List ℕ) → ℕ → List Cell → List Cell
   members_cells r no_members seen depth k = cell end_object None ∷ k
   members_cells r (member key b n c ms) seen depth k =
       cell value_separator None ∷ key_cells r seen key None
       (plain b (node_cells r n depth None (plain c (members_cells r ms (bytes_of key.items ∷ seen) depth k))))
 
+-- the cells of a tree: its text, with the breach at each character
 abbrev pub cells : Reading → Document → List Cell
 cells r d = plain d.before (node_cells r d.node 0 None (plain d.after []))
 
@@ -169,5 +182,6 @@ spell r d = map (λ x. x.char) (cells r d)
 abbrev pub BreachAt : Reading → Breach → Document → ℕ → Type 0
 BreachAt r b d i = slice_get (map (λ x. x.mark) (cells r d)) i ≡ Some (Some b)
 
+-- the tree's text breaks no limit
 abbrev pub HasNoBreach : Reading → Document → Type 0
 HasNoBreach r d = (i : ℕ) (b : Breach) → BreachAt r b d i → ⊥

@@ -1,18 +1,5 @@
-//! A text and the offset up to which it is read.
-//!
-//! In clauses, `GoesOn before p result after next` compares two runs of the automaton
-//! (docs/ARCHITECTURE.md). At `Ok(x)`, the run from the state `p` at the cursor `before` has the
-//! outcome of the run from the state `next x` at the cursor `after`; at `Err`, the stop becomes the
-//! error of this outcome, or is `Memory`. `EndsItem before end kind result after` says so of each
-//! run from `before` in which an element or an entry of a container of this kind ends before byte
-//! `end`: at `Ok` it goes on after the comma or the closing bracket. `EndsKey` says it of a key and
-//! its colon. `IsPast r bytes end cursor` says that the cursor is after the bytes before `end`, and
-//! after the whitespace that follows them.
-//!
-//! `fs` are the open containers; a state such as `before fs` or `after_closer fs v` is named by
-//! what was read in them or comes next, and has the value `v` that was read last.
-//! `Reports bytes e o` says that the stop `e` becomes the error of the outcome `o`, and
-//! `fault_here rest` is the outcome if neither the next character nor the end of `rest` is allowed.
+//! A text and the offset up to which it is read, with the moves past brackets, commas and colons
+//! and the whitespace after them.
 
 ghost use Rattle.std.specs.Prelude.{◌≡◌, ◌≢◌, ◌<◌, ◌≤◌, ◌+◌, length, chars, drop, false, slice_index, Err, IfOk, None, Some, if◌then◌else◌, MatchOption};
 ghost use Rattle.std.specs.Str.{IsCharBoundary, IsUtf8};
@@ -51,7 +38,6 @@ impl ContainerKind {
         }
     }
 
-    /// An empty container.
     #[inline(always)]
     pub(crate) fn empty(self, alloc: Global) -> JsonValue
         ensures { view result ≡ empty_container self }
@@ -62,7 +48,6 @@ impl ContainerKind {
         }
     }
 
-    /// The closing bracket.
     #[inline(always)]
     fn closer(self) -> u8
         ensures { result ≡ closer self }
@@ -129,7 +114,7 @@ impl<'a> Cursor<'a> {
         self.go_to(self.index + 1);
     }
 
-    /// The stop for a text that goes wrong here: neither the next character nor the end is allowed.
+    /// The stop for a text that goes wrong here.
     #[inline(always)]
     pub(crate) fn fault(&self) -> Stop
         ensures { Reports self.now.source.now result
@@ -142,8 +127,7 @@ impl<'a> Cursor<'a> {
     /// whether the container is empty, and then moves past its closing bracket too. If it isn't
     /// empty, the call fails at the end of the text (`Stop::At`), and else if `depth` is the most
     /// that the reading allows (`Stop::Limit`): empty containers don't count, so the limit is
-    /// exceeded only at the first character inside. (`value_mark r fs` is the breach of a value in
-    /// `fs`, if it is too deep; `frames_depth fs` is how many containers `fs` are.)
+    /// exceeded only at the first character inside.
     #[inline(always)]
     pub(crate) fn open_container(&mut self, kind: ContainerKind, depth: usize) -> Result<bool>
         requires room { depth ≤ self.old.reading.depth }

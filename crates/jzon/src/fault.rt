@@ -1,10 +1,5 @@
 //! Why the parser stops before the end of a text, and the error with line and column that is
-//! returned for it (docs/RULES.md, "Which error is reported"). In clauses, `Reports bytes e o` says
-//! that the stop `e` becomes the error of the outcome `o` of the automaton (docs/ARCHITECTURE.md),
-//! and `fault_here rest` is the outcome if neither the next character nor the end of `rest` is
-//! allowed. `reported_error bytes e` is the error that is returned for the stop `e`, and
-//! `IsAtBoundary bytes e` says that its offset, if it has one, is that of a character or of the
-//! end.
+//! returned for it (docs/RULES.md, "Which error is reported").
 
 ghost use Rattle.std.specs.Prelude.{◌≡◌, ◌+◌, drop, chars};
 ghost use Rattle.std.specs.Str.{IsCharBoundary};
@@ -35,7 +30,7 @@ pub(crate) enum Stop {
 /// The result of a function of the parser.
 pub(crate) type Result<T> = std::result::Result<T, Stop>;
 
-/// `Memory`, so that `?` after a call of std returns it. (`from_gives` says what `from` returns.)
+/// So that `?` after a call of std returns it.
 impl From<AllocError> for Stop {
     ghost use Rattle.jzon.specs.declared.fault.Stop.TheVariants.{Memory};
 
@@ -72,14 +67,12 @@ impl Stop {
     }
 }
 
-/// The line of the character after a prefix of a text, counted from 1.
 fn line_after(prefix: &str) -> usize
     ensures { result ≡ line (chars prefix.now) }
 {
     prefix.chars().filter(|c| *c == '\n').count() + 1
 }
 
-/// The column of the character after a prefix of a text, counted from 1.
 fn column_after(prefix: &str) -> usize
     ensures { result ≡ column (chars prefix.now) }
 {

@@ -1,8 +1,7 @@
 //! Laws on texts, their trees and their values, for every reading: RFC 8259 with the project's own
 //! rules (`crates/jzon/CALLING.md`, "Laws"). These functions do nothing; each law is a function's
-//! contract. Call one in a function, as `laws::reads_back()`, to have its law as a fact in the
-//! proof of that function, by the name `c.reads_back.ensures`; most callers need the lemmas of
-//! CALLING.md, "How a law is called", instead. A program needs none of them.
+//! contract, which a proof uses as CALLING.md, "How a law is called", says. A program needs none of
+//! them.
 
 ghost use Rattle.jzon.specs.Laws.{OneReading, OneText, DigitBreaches, OneFault, NumberText, Redump, StrictStyles, ReadsBack};
 
@@ -11,9 +10,8 @@ pub fn one_reading()
     ensures { OneReading }
 {}
 
-/// The text of a tree is the same in each reading. A character has at most one breach. Only the
-/// first digit of a number could have two, and it never exceeds a limit of digits, so no breach of
-/// digits is hidden.
+/// The text of a tree is the same in each reading, and no breach of digits is hidden by another
+/// one.
 pub fn one_spelling()
     ensures text { OneText }
     ensures breach { DigitBreaches }

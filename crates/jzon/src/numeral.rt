@@ -1,22 +1,5 @@
-//! Reads numbers (RFC 8259, section 6; docs/RULES.md, "Numbers").
-//!
-//! In clauses, `from r bytes p i` is the outcome of the automaton (docs/ARCHITECTURE.md) that
-//! starts in the state `p` at byte `i`, under the reading `r`. `Reports bytes e o` says that the
-//! stop `e` becomes the error of the outcome `o`.
-//!
-//! States: `numeral_after_first fs negative d` is after the first digit `d` of a number, inside the
-//! containers `fs`; `numeral fs negative (after_letter ws ds l)` is after the letter `l` of an
-//! exponent, with the digits `ws` before the point and `ds` after it; `after_value fs v` is after
-//! the value `v`. From the first of these states, `LeadsTo source start end p` leads to the state
-//! `p` at byte `end`; `MissesDigit source start end` to the fault that a digit is missing at `end`;
-//! and `HasTooMany source start` to the fault that there are too many digits. `Leads` says of a
-//! result that an `Ok` leads to the state after the number, and that an `Err` reports the fault.
-//!
-//! `AreFewEnough` says that no limit on digits is exceeded, and `IsFirstTooMany whole fraction f`
-//! that the digit `f` is the first to exceed one. `digits_number ds` is the number that the digits
-//! `ds` spell, and `fold add_digit n ds` the number `n` with these digits after its own. The
-//! definition `read_number` is the number that a sign, the digits before and after the point and an
-//! exponent mean.
+//! Reads numbers (RFC 8259, section 6; docs/RULES.md, "Numbers"): finds the digits before the
+//! point, after it and of the exponent, and has `digits` make the number of them.
 
 ghost use Rattle.std.specs.Prelude.{◌≡◌, ℕ, pos, List, [], ◌∷◌, ◌<◌, ◌≤◌, ◌+◌, ◌%◌, ◌^◌, ◌++◌, length, drop, chars, not, Bool, true, false, ◌==◌, ◌↔◌, IsTrue, IfOk, slice_index, if◌then◌else◌};
 ghost use Rattle.std.specs.Char.{is_ascii_digit};
@@ -88,8 +71,7 @@ struct Spelling<'a> {
     ghost exponent_digits: { All IsDigit exponent.now },
 }
 
-/// The digits of the number whose first digit is at `start`. The clauses say what the automaton
-/// comes to: the value of the number, or the fault of a missing digit or of too many digits.
+/// The digits of the number whose first digit is at `start`.
 #[inline(always)]
 fn spelling_at(source: &str, start: usize) -> Spelling<'_>
     requires within { start < length source.now }
@@ -196,8 +178,7 @@ fn before_point(source: &str, start: usize) -> (&[u8], u64)
 }
 
 /// The digits from `start` on, and the number that they make when appended to the digits of
-/// `before`, both modulo 2^64. The clause `number` holds for each `n` of which `before` is the
-/// remainder.
+/// `before`, both modulo 2^64.
 #[inline(always)]
 fn digits_at(source: &str, start: usize, before: u64) -> (&[u8], u64)
     requires { start ≤ length source.now }
@@ -218,9 +199,7 @@ struct Exponent<'a> {
     end: usize,
 }
 
-/// The exponent whose letter is before `start`. Clause `number`: with digits, the automaton goes on
-/// to the value of the number. Clause `missing`: without digits, it finds the fault at `end`. Not
-/// inlined, because few numbers have an exponent.
+/// The exponent whose letter is before `start`. Not inlined, because few numbers have an exponent.
 #[cold]
 #[inline(never)]
 fn exponent_after(source: &str, start: usize) -> Exponent<'_>
@@ -253,7 +232,6 @@ fn exponent_after(source: &str, start: usize) -> Exponent<'_>
     }
 }
 
-/// Whether the letter of an exponent is at `index`.
 fn has_exponent_letter(source: &str, index: usize) -> bool
     ensures { IsTrue result ↔ ((index < length source.now)
         × IsTrue (is_exponent_letter (slice_index source.now index))) }

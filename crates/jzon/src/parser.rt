@@ -1,28 +1,6 @@
-//! Parses texts (RFC 8259, section 2; docs/RULES.md, "Texts").
-//!
-//! In the clauses of the public functions, `IsMeaningOf r text v` says that the text means the
-//! value `v` and exceeds no limit of the reading `r`, and `IsReadable r v` that `v` contains no NaN
-//! and nests no deeper than `r` allows. `IsErrorUnlessMemory r text e` says that `e` is the text's
-//! first error or `OutOfMemory`, and `TakesMemory text` that the text contains a quote, a `[` or a
-//! `{`.
-//!
-//! In the other clauses, `left cursor p` is the outcome of the automaton (docs/ARCHITECTURE.md)
-//! that starts in the state `p` at the cursor, and `from r bytes p i` the same at byte `i`, under
-//! the reading `r`. `Reads bytes result o` says that the result is the value of the outcome `o`, or
-//! a stop that becomes its error, or `Memory`. `GoesOn before p result after next` says that at
-//! `Ok(x)`, `left before p` is `left after (next x)`, and at `Err` the stop becomes the error of
-//! this outcome or is `Memory`. `PassesOn` says so of each run that has come to `p` at `before`:
-//! such a call may end a container without reading a byte.
-//!
-//! States: `before fs` is before a value in the containers `fs` (`no_frames`: in none),
-//! `after_value fs v` after the value `v`, and `before_item stacks` before an element or a key of
-//! the innermost container. `after_read stacks next` and `after_end stacks v` are where
-//! `read_value` and `end_containers` end. `frames_here stacks` are all open containers, and
-//! `frames_around stacks` all but the innermost one, whose value is `whole stacks.innermost`.
-//! Conditions: `IsBeforeItem`, `IsAfterValue` and `IsAfterEnd` hold of the cursor and the stacks in
-//! these states. `HasAllValues kind c` says that each key of `c` has its value, and
-//! `AwaitsValue kind c` that the last one has none yet. `KeepsAround` says that the containers
-//! around are as before.
+//! Parses texts (RFC 8259, section 2; docs/RULES.md, "Texts"). Bytes are read in loops, without
+//! recursion. Most methods promise `GoesOn`: they agree with an automaton (docs/ARCHITECTURE.md,
+//! "How the parser is proved").
 
 ghost use Rattle.std.specs.Prelude.{◌≡◌, ◌≢◌, ◌<◌, ◌+◌, length, chars, IfOk, IfErr, Err, None, Some, OnOk, true};
 ghost use Rattle.jzon_tree.specs.View.{view};
@@ -54,16 +32,8 @@ use std::alloc::Global;
 ///
 /// # Errors
 ///
-/// The first error of the text (docs/RULES.md, "Which error is reported"):
-///
-/// - `UnexpectedCharacter`, with its line and column, if a character isn't allowed there;
-/// - `UnexpectedEndOfJson` if the text ends too early;
-/// - `ExceededDepthLimit` if more than 512 containers that aren't empty are open, or if more than
-///   32767 digits before a number's point are cut or more than 32768 after it are kept;
-/// - `FailedUtf8Parsing` if a `\u` escape of a surrogate and the `\u` escape after it mean no
-///   character;
-/// - `OutOfMemory` if an allocation fails before that. A text without strings, arrays and objects
-///   allocates nothing.
+/// The first error of the text (docs/RULES.md, "Which error is reported"), or `OutOfMemory` if an
+/// allocation fails before that. A text without strings, arrays and objects allocates nothing.
 ///
 /// ```rust
 /// let value = jzon::parse(alloc, "[1, -12.50e3, {\"a\": null}]")?;
@@ -182,8 +152,7 @@ impl<'a> Parser<'a> {
 
     /// Reads elements or entries of the innermost container: to its end, or to a container in it
     /// that isn't empty, of which it reads the opening bracket. Returns the kind of this container,
-    /// or `None` at the end. `ReadsItems` has the clauses that `read_value` has too: `kept`,
-    /// `after` and `outcome`.
+    /// or `None` at the end.
     #[inline(always)]
     fn read_items(&mut self) -> fault::Result<Option<ContainerKind>>
         requires before { IsBeforeItem self.old.cursor self.old.stacks }
@@ -209,8 +178,7 @@ impl<'a> Parser<'a> {
     }
 
     /// Reads the next key of the innermost container, and the colon. A repeated key of a strict
-    /// reading is rejected at its opening quote, by `push_key`, which returns `true`. (`wide`
-    /// begins with `name`, and makes it faster to copy.)
+    /// reading is rejected at its opening quote.
     #[inline(always)]
     fn read_key(&mut self) -> fault::Result<()>
         requires object { self.old.stacks.innermost.kind ≡ ContainerKind.Object }
@@ -236,8 +204,7 @@ impl<'a> Parser<'a> {
 
     /// Reads the next value of the innermost container, whose kind is `container`, and the comma or
     /// the closing bracket after it. Of a container that isn't empty it reads only the opening
-    /// bracket. Clause `some`: the next byte isn't the `]` of an array without elements
-    /// (`is_fresh`).
+    /// bracket.
     #[inline(always)]
     fn read_value(&mut self, container: ContainerKind) -> fault::Result<Next>
         requires kind { self.old.stacks.innermost.kind ≡ container }

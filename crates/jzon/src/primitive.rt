@@ -1,18 +1,5 @@
 //! Reads primitives: numbers, strings and literals (RFC 8259, section 3). The function that makes
 //! one puts it into its target, so that no value is moved from call to call.
-//!
-//! In clauses, `from r bytes p i` is the outcome of the automaton (docs/ARCHITECTURE.md) that
-//! starts in the state `p` at byte `i`, under the reading `r`. `Reports bytes e o` says that the
-//! stop `e` becomes the error of the outcome `o`. `Puts takes before after result bytes i p
-//! allowed` says, for the containers `fs` for which `allowed` holds: at `Ok(end)` the target took a
-//! value (`takes`), and the automaton goes from the state `p fs` at byte `i` to the state after
-//! this value at byte `end`. At `Err` the target is as it was, and the error is that of the
-//! automaton or `Memory`. `MayBegin r fs bytes i` says that a value may begin at byte `i`: it isn't
-//! too deep, and neither whitespace nor the end of an empty array is there. The states `before fs`
-//! and `after_value fs v` are before a value in the containers `fs`, and after the value `v`;
-//! `numeral_after_first fs negative d` is after the first digit `d` of a number. `value_mark r fs`
-//! is the breach of a value in `fs`, if it is too deep. `T.has_room target` says that the target
-//! can take a value.
 
 ghost use Rattle.std.specs.Prelude.{◌≡◌, ◌≢◌, ◌⊎◌, ◌<◌, ◌+◌, length, IsTrue, IfOk, Err, MatchResult, codes, slice_index, None, true, false, IsAscii, ⊤};
 ghost use Rattle.std.specs.Char.{is_ascii_digit};
@@ -141,8 +128,7 @@ fn literal(first: u8) -> (JsonValue, [u8; 4])
 }
 
 /// The offset after these letters, the last of a literal, compared one by one, so that the error is
-/// at the first wrong one. `past_letter fs v letters` is the state of the automaton before them, in
-/// the literal of the value `v`.
+/// at the first wrong one.
 #[cold]
 #[inline(never)]
 fn read_letters(source: &str, start: usize, letters: &[u8]) -> Result<usize>

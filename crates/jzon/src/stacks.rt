@@ -1,17 +1,6 @@
 //! The open containers of a text. All their keys are on one stack, and all their values on another;
-//! each container has a part of both, and is made of it at its end.
-//!
-//! A clause sees whether the reading is `strict`, the `innermost` container and the list of those
-//! `around` it, each with its kind, keys and values. `AwaitsValue kind c` says that the last key of
-//! an object has no value yet, and `HasAllValues kind c` that each key has one; both hold of an
-//! array, which has no keys. `whole c` is the value of the container if it ends now, and
-//! `new_container kind` a container with nothing in it. `entries_so_far c` are the entries of an
-//! object, without a key whose value is still to come. `put_each ps` are the entries `ps` put into
-//! an object one after the other. `value_added s v`, `key_added s k` and `container_added s kind`
-//! are the stacks `s` with one more value, key or container in the innermost one, and
-//! `innermost_ended s` those with nothing in it. `IsAdded s v t` says that `t` has the containers
-//! around the innermost one of `s`, and the value `v` added to the last of them; `IsClosed s t`
-//! says so of the value of the innermost one.
+//! each container has a part of both, and is made of it at its end. To clauses they are a list of
+//! containers (`specs/Private/OpenContainers.antt`).
 
 ghost use Rattle.std.specs.Prelude.{◌≡◌, ◌≢◌, ◌&&◌, if◌then◌else◌, slice_index, IfSome, None, Some, ◌≤◌, ◌<◌, [], ◌∷◌, ◌++◌, length, take, drop, vec_len, vec_capacity, IfOk, OnOk, OnErr, MatchOption, true, ◌+◌};
 ghost use Rattle.std.specs.List.{zip};
@@ -58,7 +47,7 @@ struct Frame {
     first_value: usize,
 }
 
-/// Open containers. A clause sees them one by one, each with its keys and values so far.
+/// Open containers.
 #[derive(Drop)]
 pub(crate) struct Stacks {
     alloc: Global,
@@ -67,8 +56,8 @@ pub(crate) struct Stacks {
     innermost: Frame,
     /// The containers around the innermost one, the outermost first.
     around: Vec<Frame>,
-    /// In a strict reading, which rejects a repeated key: the keys of the innermost container.
-    /// `None` in one that isn't strict.
+    /// What is known of the keys of the innermost container, in a strict reading, which rejects a
+    /// repeated key; `None` if the reading isn't strict.
     known: Option<KnownKeys>,
     /// In a strict reading: the keys of each container around, the outermost first.
     known_around: Vec<KnownKeys>,
@@ -91,7 +80,7 @@ impl Model for Stacks {
     ghost invariant = { IsLaidOut };
 }
 
-/// Makes room for one more value. The error is a failed allocation.
+/// Makes room for one more value.
 #[inline(always)]
 fn reserve_value(alloc: Global, values: &mut Vec<JsonValue>) -> Result<(), AllocError>
     ensures items { values.new.items ≡ values.old.items }
@@ -122,7 +111,7 @@ fn grow(alloc: Global, values: &mut Vec<JsonValue>) -> Result<(), AllocError>
 
 /// Removes what is on the stack from `start` on, and returns it in a block of its exact size. The
 /// outermost container gets the stack's own block instead, unless it has outgrown the first room
-/// and more than half of it is unused. The error is a failed allocation.
+/// and more than half of it is unused.
 #[inline(always)]
 fn cut_tail<T>(
     alloc: Global,
@@ -168,9 +157,7 @@ fn cut_values(
 }
 
 /// In a strict reading: puts what is known of the keys of the innermost container on the stack
-/// `around`, and begins anew, with no keys, for a container that is opened in it. The error is a
-/// failed allocation. (What is known of keys is a filter or an index, which finds a repeated key.
-/// `Knows keys known` in a clause: `known` is known of exactly these keys, which are distinct.)
+/// `around`, and begins anew, with no keys, for a container that is opened in it.
 #[cold]
 #[inline(never)]
 fn open_known(known: &mut Option<KnownKeys>, around: &mut Vec<KnownKeys>) -> Result<(), AllocError>
@@ -200,8 +187,7 @@ fn close_known(known: &mut Option<KnownKeys>, around: &mut Vec<KnownKeys>)
 }
 
 /// In a strict reading: the object of these keys, which are distinct, and as many values. `known`
-/// is what is known of these keys. It is left as that of no keys, because the innermost container
-/// then has none. The error is a failed allocation.
+/// is left as that of no keys, because the innermost container then has none.
 #[cold]
 #[inline(never)]
 fn object_of_known(
@@ -224,7 +210,7 @@ fn object_of_known(
 }
 
 impl Stacks {
-    /// One open container, which is empty. The error is a failed allocation.
+    /// One open container, which is empty.
     pub(crate) fn new(
         alloc: Global,
         strict: bool,
@@ -252,7 +238,6 @@ impl Stacks {
         })
     }
 
-    /// The kind of the innermost container.
     #[inline(always)]
     pub(crate) fn innermost_kind(&self) -> ContainerKind
         ensures { result ≡ self.now.innermost.kind }
@@ -260,7 +245,6 @@ impl Stacks {
         self.innermost.kind
     }
 
-    /// How many containers are open.
     #[inline(always)]
     pub(crate) fn depth(&self) -> usize
         ensures { result ≡ length self.now.around + 1 }
@@ -268,7 +252,7 @@ impl Stacks {
         self.around.len() + 1
     }
 
-    /// Adds an empty container. The error is a failed allocation.
+    /// Adds an empty container, as a value.
     #[inline(always)]
     pub(crate) fn push_empty(&mut self, kind: ContainerKind) -> Result<(), AllocError>
         ensures ok { OnOk result ((v : JsonValue) × (view v ≡ empty_container kind)
@@ -280,11 +264,8 @@ impl Stacks {
     }
 
     /// Adds the primitive at `start`, whose first byte is `first` (0 at the end of the text).
-    /// Returns the offset after it. A string with escapes is unescaped in `buffer`. The clause
-    /// `outcome` says (`Puts`) that the value is added, and that the automaton of
-    /// docs/ARCHITECTURE.md goes on to the state after it, if a value may begin at `start`
-    /// (`MayBegin`). At `Err` the stacks are as they were, and the error is the automaton's or
-    /// `Memory`.
+    /// Returns the offset after it. A string with escapes is unescaped in `buffer`. At `Err` the
+    /// stacks are as they were.
     #[inline(always)]
     pub(crate) fn push_primitive(
         &mut self,
@@ -305,10 +286,10 @@ impl Stacks {
         put_primitive(self.alloc, source, start, first, buffer, &mut self.values)
     }
 
-    /// Adds a key to the innermost container, which is an object. If the reading is strict and the
-    /// object has the key, it is rejected instead. Returns whether it is rejected. `wide` begins
-    /// with `name`: from there a short key is copied by a fixed number of bytes, which is faster.
-    /// The error is a failed allocation; the stacks are unspecified then.
+    /// Adds a key to the innermost container, which is an object. Returns whether the key is
+    /// rejected instead: a strict reading rejects one that the object has. `wide` begins with
+    /// `name`: from there a short key is copied by a fixed number of bytes, which is faster. After
+    /// an error the stacks are unspecified.
     #[inline(always)]
     pub(crate) fn push_key(&mut self, name: &str, wide: &str) -> Result<bool, AllocError>
         requires object { self.old.innermost.kind ≡ ContainerKind.Object }
@@ -326,7 +307,7 @@ impl Stacks {
         Ok(false)
     }
 
-    /// Does what `push_key` does, in a strict reading.
+    /// `push_key` in a strict reading.
     #[cold]
     #[inline(never)]
     fn push_new_key(&mut self, name: &str, wide: &str) -> Result<bool, AllocError>
@@ -354,8 +335,7 @@ impl Stacks {
         Ok(false)
     }
 
-    /// Opens a container in the innermost one, whose next value it is. The error is a failed
-    /// allocation.
+    /// Opens a container in the innermost one, whose next value it is.
     #[inline(always)]
     pub(crate) fn open(&mut self, kind: ContainerKind) -> Result<(), AllocError>
         requires { AwaitsValue self.old.innermost.kind self.old.innermost }
@@ -375,7 +355,7 @@ impl Stacks {
 
     /// Removes the elements of the innermost container, which is an array that ended, and returns
     /// them. A single one gets a block of one, also in the outermost container, where `cut_values`
-    /// would leave it the block of eight. The error is a failed allocation.
+    /// would leave it the block of `FIRST_ROOM`.
     #[inline(always)]
     fn end_array(&mut self) -> Result<Vec<JsonValue>, AllocError>
         requires { self.old.innermost.keys ≡ [] }
@@ -395,7 +375,7 @@ impl Stacks {
     }
 
     /// Removes the entries of the innermost container, which is an object that ended, and returns
-    /// this object. The error is a failed allocation.
+    /// this object.
     #[inline(always)]
     fn end_object(&mut self) -> Result<Object, AllocError>
         requires object { self.old.innermost.kind ≡ ContainerKind.Object }
@@ -418,8 +398,8 @@ impl Stacks {
     }
 
     /// Adds this value of the innermost container, which ended and has nothing left, to the one
-    /// around it. If there is none, the value is returned. The error is a failed allocation; the
-    /// stacks are unspecified then.
+    /// around it. If there is none, the value is returned. After an error the stacks are
+    /// unspecified.
     #[inline(always)]
     fn close_with(&mut self, value: JsonValue) -> Result<Option<JsonValue>, AllocError>
         requires { self.old.innermost ≡ new_container self.old.innermost.kind }
@@ -439,8 +419,8 @@ impl Stacks {
     }
 
     /// Ends the innermost container, which has a value for each key. Its value is added to the
-    /// container around it; if there is none, the value is returned. The error is a failed
-    /// allocation; the stacks are unspecified then.
+    /// container around it; if there is none, the value is returned. After an error the stacks are
+    /// unspecified.
     #[inline(always)]
     pub(crate) fn close(&mut self) -> Result<Option<JsonValue>, AllocError>
         requires { HasAllValues self.old.innermost.kind self.old.innermost }

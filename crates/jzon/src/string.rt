@@ -1,19 +1,5 @@
-//! Reads strings (RFC 8259, section 7; docs/RULES.md, "Strings").
-//!
-//! In clauses, `from r bytes p i` is the outcome of the automaton (docs/ARCHITECTURE.md) that
-//! starts in the state `p` at byte `i`, under the reading `r`. `Reports bytes e o` says that the
-//! stop `e` becomes the error of the outcome `o`. `from_closed r bytes role content i` is the
-//! outcome after a string with this content, whose closing quote is before byte `i`.
-//!
-//! The state `string role bs s` is in a string: `role` says whether it is a value or a key, `bs`
-//! are the bytes of its content so far, and `s` is `between` characters, `after_backslash`, `code`
-//! in the digits of an escape, or `second` before the second escape of a surrogate pair. `escape`
-//! is the byte of the backslash. `ReadsCharacter source start p result` says that from such a state
-//! `p` at byte `start`, an `Ok` leads on to `between`, with one more character in `bs`.
-//! `EndsAtQuote source start end` says that the byte before `end` is a quote, and not before
-//! `start`; `is_plain` holds of a byte that needs no escape. `code_unit` is the number that
-//! hexadecimal digits spell, `is_high` and `is_low` hold of high and low surrogates, and
-//! `pair_char` is the character of both.
+//! Reads strings (RFC 8259, section 7; docs/RULES.md, "Strings"). A string without escapes isn't
+//! copied; one with escapes is unescaped into a buffer.
 
 ghost use Rattle.std.specs.Prelude.{◌≡◌, ◌<◌, ◌≤◌, ◌+◌, ◌-◌, ◌++◌, ◌&&◌, ◌⊎◌, ◌↔◌, Contains, ℕ, List, [], length, take, IsTrue, IfOk, IsOk, IsOkUnless, SomeIff, MatchResult, OnOk, OnErr, slice_index, slice_range, string_bytes, if◌then◌else◌, false};
 ghost use Rattle.std.specs.Str.{IsCharBoundary};
@@ -72,9 +58,9 @@ impl Spelled {
     }
 }
 
-/// Puts the string `content` into the target. Up to 30 bytes are stored inline, which never fails,
-/// and more are allocated; `kind_of` says which. `wide` begins with `content`. The error is
-/// `Memory`, and the target is then as it was.
+/// Puts the string `content` into the target. Up to `short::MAX_LEN` bytes are stored inline, which
+/// never fails, and more are allocated. `wide` begins with `content`. After an error the target is
+/// as it was.
 #[inline(always)]
 pub(crate) fn put_string_value<T: Target>(
     alloc: Global,
@@ -133,8 +119,8 @@ pub(crate) fn read_string(source: &str, start: usize, buffer: &mut String) -> Re
     })
 }
 
-/// The offset after the unescaped characters from `start` on: that of a quote, of a backslash, of a
-/// control character, which a string may not contain, or of the text's end.
+/// The offset after the unescaped characters from `start` on: that of a quote, a backslash, a
+/// control character or the text's end.
 fn plain_end(source: &str, start: usize) -> usize
     requires { IsCharBoundary source.now start }
     ensures within { start ≤ result }
@@ -218,8 +204,7 @@ fn read_escape(source: &str, start: usize) -> Result<(char, usize)>
 }
 
 /// The character of the surrogate `first` and of the one whose escape must follow at `start`, and
-/// the offset after both. Fails at the first wrong byte if no `\u` escape follows, and with
-/// `Surrogates` if the two code units aren't a high and a low surrogate.
+/// the offset after both. Fails with `Surrogates` if the two aren't a high and a low surrogate.
 fn read_second(source: &str, start: usize, first: u32) -> Result<(char, usize)>
     requires { IsCharBoundary source.now start }
     ensures end { IfOk result (λ r. (start < r.1) × IsCharBoundary source.now r.1) }
@@ -249,9 +234,7 @@ fn paired_char(high: u32, low: u32) -> Option<char>
     }
 }
 
-/// The code unit that the four hexadecimal digits at `start`, of either case, spell. The clauses
-/// `first` and `second` say that the automaton reads it in a first escape, and in the second of a
-/// surrogate pair.
+/// The code unit that the four hexadecimal digits at `start`, of either case, spell.
 fn read_hex(source: &str, start: usize) -> Result<u32>
     requires { IsCharBoundary source.now start }
     ensures value { IfOk result (λ u. u ≡ code_unit (slice_range source.now start (start + 4))) }
@@ -270,8 +253,8 @@ fn read_hex(source: &str, start: usize) -> Result<u32>
     read_hex_by_digits(source, start)
 }
 
-/// Does what `read_hex` does, digit by digit, so that the error is at the first byte that is no
-/// digit, or at the end of the text.
+/// `read_hex`, digit by digit, so that the error is at the first byte that is no digit, or at the
+/// end of the text.
 #[cold]
 #[inline(never)]
 fn read_hex_by_digits(source: &str, start: usize) -> Result<u32>

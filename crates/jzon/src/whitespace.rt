@@ -1,5 +1,4 @@
-//! Whitespace (RFC 8259, section 2; docs/RULES.md, "Texts"). Most often there is none or one space;
-//! longer whitespace is compared in blocks.
+//! Whitespace (RFC 8259, section 2; docs/RULES.md, "Texts").
 
 ghost use Rattle.std.specs.Prelude.{◌≡◌, IsTrue, ◌<◌, ◌≤◌, ◌+◌, drop, length, true, false, slice_index};
 ghost use Rattle.std.specs.Int.{w64, trailing_zeros};
@@ -85,7 +84,6 @@ fn others_in_lanes(bytes: &[u8], start: usize) -> u64
     0xFFFF - (blanks | line_ends).to_bitmask()
 }
 
-/// How many bytes at the start are whitespace, one by one.
 #[inline(always)]
 fn whitespace_by_bytes(bytes: &[u8], strict: bool) -> usize
     ensures { result ≡ prefix_len (is_whitespace strict) bytes.now }

@@ -39,10 +39,9 @@ pub enum DigitFault {
     Fraction(usize),
 }
 
-/// The number written with the digits before the point, those after it and those of the exponent,
-/// and the signs of both. `number` is what `scan` returns for the digits before and after the
-/// point, one after the other. A missing part is empty; a missing exponent is 0. Returns a
-/// `DigitFault` if there are too many digits, whatever the exponent is.
+/// The number of the digits before the point, those after it and those of the exponent, and the
+/// signs of both; a missing part is empty. `number` is what `scan` returns for the digits before
+/// and after the point, one after the other.
 pub fn read_scanned(
     positive: bool,
     whole: &[u8],
@@ -80,8 +79,7 @@ pub fn read_scanned(
 }
 
 /// How many digits `bytes` begin with, and the number that they spell when appended to those of
-/// `before`, modulo 2^64. `before` is the number `n` of earlier digits, modulo 2^64 too, or 0 if
-/// there are none.
+/// `before`, modulo 2^64.
 #[inline]
 pub fn scan(bytes: &[u8], before: u64) -> (usize, u64)
     ensures count { result.0 ≡ prefix_len is_ascii_digit bytes.now }
@@ -120,8 +118,8 @@ fn scan_by_bytes(bytes: &[u8], before: u64) -> (usize, u64)
     (bytes.len(), number)
 }
 
-/// The longest prefix of the digits that spells a number below 2^64: this number, how many digits
-/// before the point are dropped, and how many after it are kept.
+/// The number that the kept digits spell, how many digits before the point are dropped, and how
+/// many after it are kept.
 fn kept_prefix(whole: &[u8], fraction: &[u8]) -> (u64, usize, usize)
     requires whole { All IsDigit whole.now }
     requires fraction { All IsDigit fraction.now }
@@ -162,9 +160,9 @@ fn longest_prefix(before: u64, digits: &[u8]) -> (u64, usize)
     (number, digits.len())
 }
 
-/// The exponent of the number: the written one, plus 1 for each dropped digit before the point,
-/// minus 1 for each kept digit after it. The sum is exact, and then clamped to an `i16`. `positive`
-/// is the sign of the written exponent, and `written` are its digits: none if there is no exponent.
+/// The exponent of the number: the written one, plus the dropped digits before the point, minus the
+/// kept ones after it, added exactly and then clamped. `written` are the digits of the written
+/// exponent, none if there is no exponent.
 fn clamped_exponent(dropped: usize, kept_fraction: usize, positive: bool, written: &[u8]) -> i16
     requires digits { All IsDigit written.now }
     requires dropped { dropped ≤ 32767 }
@@ -201,9 +199,8 @@ fn capped_number(digits: &[u8]) -> u32
     number
 }
 
-/// A law on the definitions alone: the kept digits are the longest prefix that spells a number
-/// below 2^64, and each longer prefix spells 2^64 or more. Nothing calls this function. It is here
-/// because a statement is proved only if it is in a contract.
+/// A law on the definitions alone. Nothing calls this function: a statement is proved only if it is
+/// in a contract.
 pub fn keeps_longest_prefix()
     ensures { KeepsLongestPrefix }
 {}

@@ -1,9 +1,4 @@
 //! Why a call fails (docs/RULES.md, "Errors").
-//!
-//! In clauses, `IsWrongType word` holds of a `WrongType` with this word, and `error_text` is the
-//! text that an error is printed as. `line_in` and `column_in` are what `line` and `column` return.
-//! By the ghost member `output`, `Display` prints this text; by `from_gives`, `from` returns
-//! `OutOfMemory`.
 
 ghost use Rattle.std.specs.Prelude.{◌≡◌, Some, IfOk, IsOkUnless};
 ghost use Rattle.jzon_base.specs.declared.error.Error.TheVariants.{OutOfMemory};
@@ -62,8 +57,8 @@ impl Error {
         Ok(Error::WrongType(String::from_str(alloc, expected)?))
     }
 
-    /// The line of the text, counted from 1, at which it was rejected. `None` for an error without
-    /// a position.
+    /// The line, counted from 1, at which the text was rejected. `None` for an error without a
+    /// position.
     pub fn line(&self) -> Option<usize>
         ensures { result ≡ line_in self.now }
     {
@@ -74,8 +69,7 @@ impl Error {
         }
     }
 
-    /// The column of the text, counted from 1 in characters, at which it was rejected. `None` for
-    /// an error without a position.
+    /// The column, counted from 1 in characters. `None` for an error without a position.
     pub fn column(&self) -> Option<usize>
         ensures { result ≡ column_in self.now }
     {
@@ -110,7 +104,7 @@ impl fmt::Display for Error {
 
 impl std::error::Error for Error {}
 
-/// `OutOfMemory`, so that `?` after a call of std returns it.
+/// So that `?` after a call of std returns `OutOfMemory`.
 impl From<AllocError> for Error {
     ghost from_gives = { λ _ e. e ≡ OutOfMemory };
 
@@ -119,7 +113,7 @@ impl From<AllocError> for Error {
     }
 }
 
-/// `OutOfMemory`. What was to be stored, and came back with the error, is dropped.
+/// What was to be stored, and came back with the error, is dropped.
 impl<T: Drop> From<AllocFailed<T>> for Error {
     ghost from_gives = { λ _ e. e ≡ OutOfMemory };
 

@@ -15,8 +15,7 @@ pub(crate) fn text_in<const MAX: usize>(text: &str) -> ArrayString<MAX>
 }
 
 /// The text, with which `wide` begins. If `wide` can be cut after `MAX` bytes, these are copied,
-/// and those after the text are dropped: a copy of a fixed number of bytes takes no call. If `wide`
-/// is shorter, or a character goes on after `MAX` bytes, the text alone is copied.
+/// and the copy is cut to the text: a copy of a fixed number of bytes takes no call.
 #[inline(always)]
 #[tactic(auto, using(crate::proofs::Strings::CopiedPrefixes::splits_front))]
 pub(crate) fn front_of<const MAX: usize>(text: &str, wide: &str) -> ArrayString<MAX>

@@ -49,9 +49,9 @@ impl Key {
         Ok(Key { text })
     }
 
-    /// Appends the key with this text, with which `wide` begins, to `keys`. It is made there, so
-    /// that it isn't moved. If `wide` can be cut after `INLINE_MAX` bytes, these are copied at
-    /// once, which is faster, and the copy is cut to the text. After an error no key is appended.
+    /// Appends the key with this text, with which `wide` begins, to `keys`, where it is made, so
+    /// that it isn't moved. From `wide` a short text is copied faster (`inline::front_of`). After
+    /// an error no key is appended.
     #[doc(hidden)]
     #[inline(always)]
     pub fn push_wide(

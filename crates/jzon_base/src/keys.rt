@@ -1,18 +1,8 @@
 //! The keys of an object in the order in which they were put, and the position of each
-//! (docs/RULES.md, "Objects").
-//!
-//! How a key is found: up to 32 keys that have no index are compared one by one. From the 33rd key
-//! on, and still after removals, `Runs` has an entry of hash and position for each key, in few runs
-//! in the order of hashes and texts; each is asked by binary search, so that the time doesn't
-//! depend on which hashes the keys have.
-//!
-//! `from_entries` sorts the index entries of more than 32 keys once. If no key repeats, they are
-//! the index; else, and for fewer keys, the entries of the object are put one after the other.
-//!
-//! In clauses, `bytes_eq` is the equality of keys. `IsIndexed keys index` says that the index is
-//! empty or has the entries of exactly these keys, and `IsTable keys index` that the keys are
-//! distinct too. `IsSpotFor keys index name hash at` says that the index isn't empty, and that the
-//! entry of the missing key `name` has this hash and belongs at position `at` of the last run.
+//! (docs/RULES.md, "Objects"). Up to `LINEAR_MAX` keys that have no index are compared one by one.
+//! From the next key on, and still after removals, `Runs` has an entry of hash and position for
+//! each key, in few runs in the order of hashes and texts; each is asked by binary search, so that
+//! the time doesn't depend on which hashes the keys have.
 ghost use Rattle.std.specs.Prelude.{◌≡◌, ◌<◌, ◌++◌, ◌∷◌, ◌==◌, [], length, remove, slice_get, List, ℕ, IfOk, IfErr, OnOk, OnErr, MatchOption, None, Some, vec_len, vec_capacity};
 ghost use Rattle.std.specs.List.{position, zip, IsDistinct};
 ghost use Rattle.std.specs.Result.{result_ok};
@@ -44,9 +34,7 @@ use std::marker::Model;
 const FIRST_ROOM: usize = 8;
 
 /// Distinct keys in the order in which they were put, and the index in which the position of each
-/// is found. A clause sees the list of their bytes.
-///
-/// A look-up in keys without an index compares them one by one.
+/// is found.
 #[derive(Drop)]
 pub struct Keys {
     keys: Vec<Key>,
@@ -70,8 +58,8 @@ struct Spot {
     at: usize,
 }
 
-/// The position of a key. The error is where the index entry of a missing key belongs; `None` if
-/// the keys have no index.
+/// The position of a key. At `Err`: where the index entry of a missing key belongs; `None` if the
+/// keys have no index.
 #[inline(always)]
 fn search(keys: &[Key], index: &Runs, name: &str) -> Result<usize, Option<Spot>>
     requires { IsTable keys.now index.now }
@@ -88,8 +76,8 @@ fn search(keys: &[Key], index: &Runs, name: &str) -> Result<usize, Option<Spot>>
         .map_err(|at| Some(Spot { hash, at }))
 }
 
-/// Makes the index of keys and a missing key, which the caller puts after them. The error is a
-/// failed allocation, and then the index is empty or that of the keys alone.
+/// Makes the index of keys and a missing key, which the caller puts after them. After an error the
+/// index is empty or that of the keys alone.
 #[inline(never)]
 fn begin_index(alloc: Global, keys: &[Key], index: &mut Runs, name: &str) -> Result<(), AllocError>
     requires distinct { IsDistinct bytes_eq keys.now }
@@ -106,8 +94,7 @@ fn begin_index(alloc: Global, keys: &[Key], index: &mut Runs, name: &str) -> Res
 }
 
 /// Adds the entry of a missing key, which the caller puts after these keys, to their index, if they
-/// have one or are at least 32. The error is a failed allocation, and then the index is empty or
-/// that of these keys.
+/// have one or are at least `LINEAR_MAX`. After an error the index is empty or that of these keys.
 #[inline(always)]
 fn add_entry(
     alloc: Global,
@@ -133,7 +120,7 @@ fn add_entry(
 }
 
 /// Makes room for one more element. If there is room, the test here takes fewer instructions than
-/// `reserve`. The error is a failed allocation.
+/// `reserve`.
 #[inline(always)]
 fn reserve_next<T>(items: &mut Vec<T>) -> Result<(), AllocError>
     ensures items { items.new.items ≡ items.old.items }
@@ -147,7 +134,7 @@ fn reserve_next<T>(items: &mut Vec<T>) -> Result<(), AllocError>
 }
 
 /// The keys and the values of entries that are put one after the other: of those with equal keys,
-/// the last value at the position of the first. The error is a failed allocation.
+/// the last value at the position of the first.
 #[inline(never)]
 fn put_each<V: Drop>(
     alloc: Global,
@@ -191,8 +178,8 @@ impl Keys {
         Keys::from_distinct(alloc, Vec::new(alloc))
     }
 
-    /// No key, with room for `capacity` of them, and for up to 1,024 index entries if `capacity` is
-    /// above 32. The error is a failed allocation.
+    /// No key, with room for `capacity` of them, and for their index entries if they need an index
+    /// (`Runs::with_capacity`).
     pub fn with_capacity(alloc: Global, capacity: usize) -> Result<Keys, AllocError>
         ensures { IfOk result (λ k. k ≡ []) }
     {
@@ -211,9 +198,8 @@ impl Keys {
         Keys { keys, index }
     }
 
-    /// The keys and the values of entries that are put one after the other: those of equal keys
-    /// become one, with the last value at the position of the first. The error is a failed
-    /// allocation.
+    /// Does what `put_each` does. More than `LINEAR_MAX` keys of which none repeats get their index
+    /// by one sort.
     pub fn from_entries<V: Drop>(
         alloc: Global,
         keys: Vec<Key>,
@@ -234,8 +220,8 @@ impl Keys {
         put_each(alloc, keys, values)
     }
 
-    /// These keys, with their index if they are more than 32. `known` is what is known of exactly
-    /// them (the clause `Knows`), so they are distinct. The error is a failed allocation.
+    /// These keys, with their index if they are more than `LINEAR_MAX`. `known` is what is known of
+    /// exactly them, so they are distinct.
     pub fn from_known(alloc: Global, keys: Vec<Key>, known: KnownKeys) -> Result<Keys, AllocError>
         requires { Knows keys.items known }
         ensures { IfOk result (λ k. k ≡ keys.items) }
@@ -252,7 +238,7 @@ impl Keys {
         self.keys
     }
 
-    /// How many keys there are. The clause `distinct` gives proofs the invariant.
+    /// The clause `distinct` gives proofs the invariant.
     pub fn len(&self) -> usize
         ensures len { result ≡ length self.now }
         ensures distinct { IsDistinct bytes_eq self.now }
@@ -267,7 +253,6 @@ impl Keys {
         search(self.keys.as_slice(), &self.index, name).ok()
     }
 
-    /// The key at a position.
     pub fn get(&self, index: usize) -> &str
         requires { index < length self.now }
         ensures { slice_get self.now index ≡ Some result.now }
@@ -276,7 +261,7 @@ impl Keys {
     }
 
     /// The position of a key. A missing key is put last, and the result is `None`: then `values`
-    /// have room for one more. The error is a failed allocation, and then nothing has changed.
+    /// have room for one more. After an error nothing has changed.
     #[inline(always)]
     pub fn put<V>(
         &mut self,
@@ -325,7 +310,6 @@ impl Keys {
         self.index.clear();
     }
 
-    /// A copy. Its error is a failed allocation.
     pub fn clone(&self, alloc: Global) -> Result<Keys, AllocError>
         ensures { IfOk result (λ k. k ≡ self.now) }
     {
@@ -337,7 +321,6 @@ impl Keys {
         Ok(Keys { keys, index })
     }
 
-    /// The keys in their order, each by its text.
     pub fn iter(&self) -> Iter<'_>
         ensures { result ≡ self.now }
     {

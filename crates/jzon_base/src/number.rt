@@ -1,6 +1,4 @@
-//! Numbers: exact decimals, and NaN (docs/RULES.md, "Numbers"). Two numbers are equal if their
-//! exact decimals are: the mantissa of the higher exponent is scaled to the lower one, without
-//! rounding.
+//! Numbers: exact decimals, and NaN (docs/RULES.md, "Numbers"). They are compared without rounding.
 
 ghost use Rattle.std.specs.Prelude.{◌≡◌, ◌*◌, ◌^◌, ◌<◌, ◌≤◌, ◌==◌, ◌||◌, MatchOption, Some};
 ghost use Rattle.std.specs.Cmp.{partial_equiv_from_equiv};

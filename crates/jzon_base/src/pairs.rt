@@ -1,20 +1,5 @@
-//! Values under distinct keys, in a box (docs/RULES.md, "Objects").
-//!
-//! In clauses, `find k entries` is the value of the key `k`, if it is there. `put k v entries` are
-//! the entries with the value `v` at `k`, last if `k` was missing; `with_default k v` changes
-//! nothing if `k` is there. `put_each` puts entries one after the other, `cut k` removes the entry
-//! of `k`, and `set_value entries i v` replaces the value at position `i`, if there is one.
-//! `keys_of` and `values_of` are the keys and the values alone.
-//!
-//! A clause `writes_back` says what the receiver is once a returned `&mut` is no longer used.
-//! `Lends R S self.entry result f` says that it is `f w`, for the last value `w` to which the
-//! reference referred; `R` and `S` name the types of the receiver and of `w`. `LendsIf .. result f
-//! x` and `LendsIfOk .. result f x` say so of `Some` and of `Ok`, and that the receiver is `x` at
-//! `None` or `Err`. `ensures*` and `sem 𝓛` are the fixed wording of such a clause.
-//!
-//! `CallableOnEachPair .. keep entries` says that `keep` accepts each entry in turn;
-//! `RetainsPairs .. keep before after`, that `after` are the entries for which it returned `true`,
-//! with the values that it left there.
+//! Values under distinct keys, in a box (docs/RULES.md, "Objects"), so that what holds `Pairs` is
+//! small. The words of a clause `writes_back` are explained in `jzon_tree/specs/LentTypes.antt`.
 ghost use Rattle.std.specs.Prelude.{◌≡◌, ◌<◌, ◌-◌, ◌∷◌, ◌==◌, List, ℕ, [], length, remove, slice_get, Some, None, OnOk, OnErr, IfOk, MatchOption};
 ghost use Rattle.std.specs.List.{position, zip, IsDistinct};
 ghost use Rattle.std.specs.Map.Calls.{CalledAtPair, CallableOnEachPair, RetainsPairs, TakesPair};
@@ -38,11 +23,8 @@ use std::alloc::{AllocError, Global};
 use std::fmt;
 use std::marker::Model;
 
-/// Values under distinct keys, in the order in which the keys were put. A clause sees the list of
-/// entries.
-///
-/// The entries are in a box, so that what holds `Pairs` is small. There is no box before an entry
-/// is put or room is asked for.
+/// Values under distinct keys, in the order in which the keys were put. There is no box before an
+/// entry is put or room is asked for.
 #[derive(Drop)]
 pub struct Pairs<V> {
     alloc: Global,
@@ -71,8 +53,7 @@ impl<V> Pairs<V> {
         Pairs { alloc, entries }
     }
 
-    /// `Pairs` of keys and as many values, which are put in a box. The error is a failed
-    /// allocation.
+    /// `Pairs` of keys and as many values, which are put in a box.
     #[inline(always)]
     fn boxed(alloc: Global, keys: Keys, values: Vec<V>) -> Result<Pairs<V>, AllocError>
     where
@@ -84,8 +65,7 @@ impl<V> Pairs<V> {
         Ok(Pairs { alloc, entries })
     }
 
-    /// No entry, with room for keys and values of `capacity` entries, and for up to 1,024 index
-    /// entries if `capacity` is above 32. The error is a failed allocation.
+    /// No entry, with room for `capacity` of them (`Keys::with_capacity`).
     pub fn with_capacity(alloc: Global, capacity: usize) -> Result<Pairs<V>, AllocError>
     where
         V: Drop,
@@ -100,10 +80,8 @@ impl<V> Pairs<V> {
     }
 
     /// The entries of keys and as many values, put one after the other: those of equal keys become
-    /// one, with the last value at the position of the first. The error is a failed allocation.
-    ///
-    /// Inlined for few keys of which none repeats, because each small object of a text is made
-    /// here.
+    /// one, with the last value at the position of the first. Inlined for few keys of which none
+    /// repeats, because each small object of a text is made here.
     #[inline(always)]
     pub fn from_entries(
         alloc: Global,
@@ -124,8 +102,7 @@ impl<V> Pairs<V> {
         Pairs::merged(alloc, keys, values)
     }
 
-    /// The entries of more than 32 keys, or of keys of which some repeat. The error is a failed
-    /// allocation.
+    /// The entries of more than `LINEAR_MAX` keys, or of keys of which some repeat.
     #[inline(never)]
     fn merged(alloc: Global, keys: Vec<Key>, values: Vec<V>) -> Result<Pairs<V>, AllocError>
     where
@@ -138,9 +115,8 @@ impl<V> Pairs<V> {
     }
 
     /// The entries of keys, and of as many values. `known` is the filter or the index by which a
-    /// strict reading found these keys distinct: it is of exactly these keys (the clause `Knows`),
-    /// and an index isn't made again. The error is a failed allocation. The clause says `put_each`,
-    /// as that of `from_entries` does; of distinct keys it makes no other entries.
+    /// strict reading found exactly these keys distinct, so an index isn't made again. The clause
+    /// says `put_each`, as that of `from_entries` does; of distinct keys it makes no other entries.
     pub fn from_known(
         alloc: Global,
         keys: Vec<Key>,
@@ -160,7 +136,7 @@ impl<V> Pairs<V> {
         Pairs::boxed(alloc, keys, values)
     }
 
-    /// A copy of the keys, with these values. The error is a failed allocation.
+    /// A copy of the keys, with these values.
     pub fn with_values(&self, alloc: Global, values: Vec<V>) -> Result<Pairs<V>, AllocError>
     where
         V: Drop,
@@ -192,7 +168,7 @@ impl<V> Pairs<V> {
         self.alloc
     }
 
-    /// The number of entries. The clause `distinct` gives proofs the invariant.
+    /// The clause `distinct` gives proofs the invariant.
     pub fn len(&self) -> usize
         ensures len { result ≡ length self.now }
         ensures distinct { IsDistinct bytes_eq (keys_of self.now) }
@@ -203,14 +179,12 @@ impl<V> Pairs<V> {
         }
     }
 
-    /// Whether there is no entry.
     pub fn is_empty(&self) -> bool
         ensures { result ≡ (length self.now == 0) }
     {
         self.len() == 0
     }
 
-    /// The keys in their order, each by its text.
     pub fn keys(&self) -> keys::Iter<'_>
         ensures { result ≡ keys_of self.now }
     {
@@ -220,7 +194,6 @@ impl<V> Pairs<V> {
         keys::Iter::empty()
     }
 
-    /// The values in the order of their keys.
     pub fn values(&self) -> &[V]
         ensures { result.now ≡ values_of self.now }
     {
@@ -230,7 +203,6 @@ impl<V> Pairs<V> {
         &[]
     }
 
-    /// The position of a key, or `None` if it is missing.
     pub fn position(&self, name: &str) -> Option<usize>
         ensures { result ≡ position (λ k. bytes_eq k name.now) (keys_of self.now) }
     {
@@ -240,7 +212,6 @@ impl<V> Pairs<V> {
         }
     }
 
-    /// The entry at a position.
     pub fn get_at(&self, index: usize) -> (&str, &V)
         requires { index < length self.now }
         ensures { slice_get self.now index ≡ Some (result.0.now, result.1.now) }
@@ -264,7 +235,7 @@ impl<V> Pairs<V> {
         }
     }
 
-    /// The value at a position, to be written: nothing else changes.
+    /// The value at a position, to be written.
     pub fn value_mut(&mut self, index: usize) -> &mut V
         requires { index < length self.old }
         ensures* writes_back { sem 𝓛 (Lends (the_row V.row) V.row self.entry result
@@ -277,7 +248,6 @@ impl<V> Pairs<V> {
         }
     }
 
-    /// The value of a key, or `None` if it is missing.
     #[tactic(auto, using(crate::proofs::Entries::PairPositions::places))]
     pub fn get(&self, name: &str) -> Option<&V>
         ensures { option_copied result ≡ find name.now self.now }
@@ -285,7 +255,7 @@ impl<V> Pairs<V> {
         Some(self.get_at(self.position(name)?).1)
     }
 
-    /// The value of a key, to be written: nothing else changes. `None` if the key is missing.
+    /// The value of a key, to be written. `None` if the key is missing.
     #[tactic(auto, using(crate::proofs::Entries::PairPositions::places))]
     pub fn get_mut(&mut self, name: &str) -> Option<&mut V>
         ensures* writes_back { sem 𝓛 (LendsIf (the_row V.row) V.row self.entry result
@@ -298,8 +268,7 @@ impl<V> Pairs<V> {
     }
 
     /// Puts the first entry, into a new box: there is none yet. The box is allocated before the
-    /// room for keys and values. The error is a failed allocation, and then there is still no
-    /// entry.
+    /// room for keys and values. After an error there is still no entry.
     #[inline(never)]
     fn insert_first(&mut self, alloc: Global, name: &str, value: V) -> Result<(), AllocError>
     where
@@ -317,7 +286,7 @@ impl<V> Pairs<V> {
     }
 
     /// Puts a value under a key. If the key is there, its value is replaced, which takes no memory;
-    /// else the entry is put last. The error is a failed allocation, and then nothing has changed.
+    /// else the entry is put last. After an error nothing has changed.
     pub fn insert(&mut self, alloc: Global, name: &str, value: V) -> Result<(), AllocError>
     where
         V: Drop,
@@ -332,8 +301,7 @@ impl<V> Pairs<V> {
     }
 
     /// The position of a key. If the key is missing, it is put last with `value`; if it is there,
-    /// `value` is dropped, and no memory is taken. The error is a failed allocation, and then
-    /// nothing has changed.
+    /// `value` is dropped, and no memory is taken. After an error nothing has changed.
     pub fn place(&mut self, alloc: Global, name: &str, value: V) -> Result<usize, AllocError>
     where
         V: Drop,
@@ -350,9 +318,8 @@ impl<V> Pairs<V> {
         Ok(0)
     }
 
-    /// The value of a key, to be written. If the key is missing, it is put last with `value`; if it
-    /// is there, `value` is dropped, and no memory is taken. The error is a failed allocation, and
-    /// then nothing has changed.
+    /// The value of a key, to be written. A missing key is first put last with `value`, as by
+    /// `place`.
     #[tactic(auto, using(crate::proofs::Entries::PairPositions::places))]
     pub fn at_mut(&mut self, alloc: Global, name: &str, value: V) -> Result<&mut V, AllocError>
     where
@@ -432,7 +399,6 @@ impl<V> Pairs<V> {
     }
 }
 
-/// The entries as a map of keys to values.
 impl<V: fmt::Debug> fmt::Debug for Pairs<V> {
     fn fmt<W: fmt::Write>(&self, f: &mut fmt::Formatter<W>) -> fmt::Result {
         f.debug_map().entries(self.iter()).finish()

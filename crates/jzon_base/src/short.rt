@@ -39,9 +39,8 @@ impl Short {
         Short { text }
     }
 
-    /// A copy of the string, with which `wide` begins. If `wide` can be cut after `MAX_LEN` bytes,
-    /// these are copied at once, which is faster than `from_slice`, and the copy is cut to the
-    /// string.
+    /// A copy of the string, with which `wide` begins: from there it is copied faster than by
+    /// `from_slice` (`inline::front_of`).
     #[doc(hidden)]
     #[inline(always)]
     pub fn from_wide(slice: &str, wide: &str) -> Short

@@ -108,6 +108,8 @@ under-intro seen (pair l w ps) qs h =
     h k v (find-past l k w (list_of_pairs ps) apart.0 ∙ e) apart.1))
 
 -- ---- equal objects, by lookups: at each key both have equal values, or neither has one
+
+-- there are two equal values, or none
 abbrev pub same_at : Option Value → Option Value → Bool
 same_at None None = true
 same_at None (Some w) = false

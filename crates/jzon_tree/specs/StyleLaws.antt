@@ -57,6 +57,7 @@ IsOrder-insertion n = record {
 }
 
 -- ---- the styles
+
 -- a style of one whitespace for each depth, one form of the colon and the order of insertion allows a text of each
 -- value
 pub IsStyle-only : (line : ℕ → List ℕ) (wide : Bool) → ((dent : ℕ) → is_all_whitespace false (line dent) ≡ true)

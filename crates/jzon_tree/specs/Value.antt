@@ -7,9 +7,9 @@ pub data Kind : Type 0 where
   short : Kind
   long : Kind
 
--- Lists of values, and of keys and values, in their order. A program's objects have distinct keys.
+-- JSON values as plain data. A program's objects have distinct keys.
 mutual
-  -- A JSON value as plain data.
+  -- a value
   pub data Value : Type 0 where
     null : Value
     boolean : Bool → Value
@@ -18,10 +18,12 @@ mutual
     array : Values → Value
     object : ValuePairs → Value
 
+  -- the elements of an array
   pub data Values : Type 0 where
     no_values : Values
     value : Value → Values → Values
 
+  -- the entries of an object
   pub data ValuePairs : Type 0 where
     no_pairs : ValuePairs
     pair : List ℕ → Value → ValuePairs → ValuePairs

@@ -127,9 +127,8 @@ impl JsonValue {
     }
 
     /// Removes the entry of the key of an object and returns its value. Null if the key is missing,
-    /// and for any other value, which is left as it is. The other entries keep their order: those
-    /// after it move up, so the time of a call grows with the number of entries (measured, not
-    /// proved).
+    /// and for any other value, which is left as it is. The entries after it move up, so the time
+    /// of a call grows with their number (measured, not proved).
     pub fn remove(&mut self, key: &str) -> JsonValue
         ensures value { view result ≡ or_null (find key.now (entries (view self.old))) }
         ensures after { view self.new ≡ without_entry key.now (view self.old) }
@@ -141,8 +140,8 @@ impl JsonValue {
     }
 
     /// Removes the element at a position of an array and returns it. Null past the end, and for any
-    /// other value, which is left as it is. The other elements keep their order: those after it
-    /// move up, so the time of a call grows with their number (measured, not proved).
+    /// other value, which is left as it is. The elements after it move up, so the time of a call
+    /// grows with their number (measured, not proved).
     pub fn array_remove(&mut self, index: usize) -> JsonValue
         ensures value { view result ≡ or_null (slice_get (items (view self.old)) index) }
         ensures after { view self.new ≡ without_item index (view self.old) }

@@ -33,8 +33,7 @@ impl JsonValue {
 }
 
 impl Object {
-    /// A copy of the object, with the parts of its numbers and the order of its keys. Fails with
-    /// `OutOfMemory` only.
+    /// As `JsonValue::clone`.
     // Not inlined into the loop over elements, which has a smaller stack frame without it.
     #[inline(never)]
     #[cycle(copy)]

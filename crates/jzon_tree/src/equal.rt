@@ -12,8 +12,7 @@ ghost use Rattle.jzon_tree.specs.View.{view, view_object, view_values};
 use crate::object::Object;
 use crate::value::JsonValue;
 
-/// Compares what the values mean: the order of an object's entries, how a string is stored and how
-/// a decimal is written don't count. NaN equals NaN.
+/// Compares what the values mean, as `JsonValue` says.
 impl PartialEq for JsonValue {
     ghost eq = { λ v w. same (view v) (view w) };
 
@@ -72,8 +71,7 @@ impl Eq for Object {
     ghost laws = { on_equiv view_object same_equiv };
 }
 
-/// Whether there are as many elements, and those at the same position are equal. Not inlined, for
-/// the same reason as `eq` of objects.
+/// Not inlined, for the same reason as `eq` of objects.
 #[inline(never)]
 #[cycle(same)]
 fn same_array(items: &[JsonValue], others: &[JsonValue]) -> bool

@@ -30,8 +30,7 @@ pub use writes::{write_at, write_at_index, write_present};
 /// Iterator over the elements of an array, as mutable references.
 pub type MembersMut<'a> = slice::IterMut<'a, JsonValue>;
 
-/// Iterator over the entries of an object, each as its key's text and a mutable reference to its
-/// value.
+/// Iterator over the entries of an object, with mutable references to their values.
 pub type EntriesMut<'a> = object::IterMut<'a>;
 
 impl JsonValue {

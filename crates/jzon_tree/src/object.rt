@@ -38,8 +38,7 @@ const ROOM_MAX: usize = 256;
 /// The entries of an object that are left, each as its key's text and its value.
 pub type Iter<'a> = pairs::Iter<'a, JsonValue>;
 
-/// The entries of an object that are left, each as its key's text and a mutable reference to its
-/// value.
+/// As `Iter`, with a mutable reference to each value.
 pub type IterMut<'a> = pairs::IterMut<'a, JsonValue>;
 
 /// The keys of an object that are left, each as its text.
@@ -91,8 +90,7 @@ impl Object {
 
     /// The object of these pairs, put one after the other: a later pair of a key replaces that
     /// key's value at its position. The iterator must accept calls of `next` (the clause `can`),
-    /// and end. Fails with `OutOfMemory` only. In the clause `pairs`, the iterator yields `ps` and
-    /// then `None`.
+    /// and end. Fails with `OutOfMemory` only.
     ///
     /// ```rust
     /// let object = Object::from_pairs(alloc, pairs.into_iter())?;
@@ -118,11 +116,8 @@ impl Object {
         Ok(Object::from_entries(alloc, keys, values)?)
     }
 
-    /// The object of the entries of keys and as many values, put one after the other, as by
-    /// `from_pairs`.
-    ///
-    /// Public only for the parser. Inlined like `Pairs::from_entries`, because each small object of
-    /// a text is made here.
+    /// As `from_pairs`, for keys and as many values. Public only for the parser. Inlined like
+    /// `Pairs::from_entries`, because each small object of a text is made here.
     #[doc(hidden)]
     #[inline(always)]
     pub fn from_entries(
@@ -138,8 +133,7 @@ impl Object {
         Ok(Object { pairs })
     }
 
-    /// The object of the entries of keys, and of as many values. `known` is the filter or the index
-    /// by which a strict reading found exactly these keys distinct, so an index isn't made again.
+    /// As `Pairs::from_known`.
     #[doc(hidden)]
     pub fn from_known(
         alloc: Global,
@@ -156,7 +150,7 @@ impl Object {
         Ok(Object { pairs })
     }
 
-    /// The number of entries. The clause `distinct` says that no key repeats.
+    /// The number of entries. By the clause `distinct` no key repeats.
     pub fn len(&self) -> usize
         ensures len { result ≡ length (entries_of self.now) }
         ensures distinct { IsDistinct bytes_eq (keys_of (entries_of self.now)) }
@@ -326,8 +320,7 @@ fn drop_values(mut values: Vec<JsonValue>) {
     values.destroy_empty();
 }
 
-/// The object that `Object::from_pairs` makes of these entries: a repeated key keeps its first
-/// position and takes the last value.
+/// As `Object::from_pairs`.
 impl<K: AsStr + Drop, V: IntoJson> FromIterator<(K, V)> for Object {
     type Alloc = Global;
 

@@ -80,16 +80,14 @@ impl<'a> View<'a> {
         self.value
     }
 
-    /// The value of the key of an object. Missing if the key is, for any other value, and if this
-    /// view is.
+    /// As `JsonValue::at`. Missing if this view is.
     pub fn at(self, key: &str) -> View<'a>
         ensures { shown result ≡ find key.now (entries (seen self.entry)) }
     {
         self.value.map_or(self, |value| value.at(key))
     }
 
-    /// The element at a position of an array. Missing past the end, for any other value, and if
-    /// this view is.
+    /// As `JsonValue::at_index`. Missing if this view is.
     pub fn at_index(self, index: usize) -> View<'a>
         ensures { shown result ≡ slice_get (items (seen self.entry)) index }
     {
@@ -103,35 +101,35 @@ impl<'a> View<'a> {
         self.value.is_none_or(JsonValue::is_null)
     }
 
-    /// Whether it is a boolean.
+    /// As `JsonValue::is_boolean`.
     pub fn is_boolean(self) -> bool
         ensures { result ≡ is_boolean (seen self.entry) }
     {
         self.value.is_some_and(JsonValue::is_boolean)
     }
 
-    /// Whether it is a number. NaN is one.
+    /// As `JsonValue::is_number`.
     pub fn is_number(self) -> bool
         ensures { result ≡ is_number (seen self.entry) }
     {
         self.value.is_some_and(JsonValue::is_number)
     }
 
-    /// Whether it is a string, however it is stored.
+    /// As `JsonValue::is_string`.
     pub fn is_string(self) -> bool
         ensures { result ≡ is_text (seen self.entry) }
     {
         self.value.is_some_and(JsonValue::is_string)
     }
 
-    /// Whether it is an object.
+    /// As `JsonValue::is_object`.
     pub fn is_object(self) -> bool
         ensures { result ≡ is_object (seen self.entry) }
     {
         self.value.is_some_and(JsonValue::is_object)
     }
 
-    /// Whether it is an array.
+    /// As `JsonValue::is_array`.
     pub fn is_array(self) -> bool
         ensures { result ≡ is_array (seen self.entry) }
     {
@@ -188,7 +186,7 @@ impl<'a> View<'a> {
         self.value?.as_array()
     }
 
-    /// Whether it is an object that has the key.
+    /// As `JsonValue::has_key`.
     pub fn has_key(self, key: &str) -> bool
         ensures { result ≡ is_some (find key.now (entries (seen self.entry))) }
     {
@@ -209,21 +207,21 @@ impl<'a> View<'a> {
         self.value.map_or(Entries::empty(), JsonValue::entries)
     }
 
-    /// Whether it is an array that contains an element equal to `value`.
+    /// As `JsonValue::contains`.
     pub fn contains(self, value: &JsonValue) -> bool
         ensures { result ≡ list_any (λ v. same v (view value.now)) (items (seen self.entry)) }
     {
         self.value.is_some_and(|array| array.contains(value))
     }
 
-    /// Whether it is this string, however it is stored.
+    /// As `JsonValue::eq_str`.
     pub fn eq_str(self, other: &str) -> bool
         ensures { result ≡ same (seen self.entry) (text short other.now) }
     {
         self.as_str() == Some(other)
     }
 
-    /// Whether it is this boolean.
+    /// As `JsonValue::eq_bool`.
     pub fn eq_bool(self, other: bool) -> bool
         ensures { result ≡ same (seen self.entry) (boolean other) }
     {

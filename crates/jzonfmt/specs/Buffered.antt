@@ -7,6 +7,7 @@ pub record Held : Type 0 where
   pub writer : ℕ
   pub bytes : List ℕ
 
+-- both in one list, so that std's words for known bytes speak of them
 abbrev pub listed : Held → List ℕ
 listed h = h.writer ∷ h.bytes
 

@@ -1,11 +1,5 @@
-//! A buffered writer whose contract says that its writer stays the same.
-//!
-//! In clauses, `W.contents w` are the bytes of the writer `w`, if they are known, and `left b` are
-//! those in the buffer, which the writer didn't take yet. `held W.contents S.start b` are the name
-//! of the reference to the writer (`ghost_name`), its bytes, and then those in the buffer. They are
-//! known only if the writer's bytes are, and are at least `S.start`. So a call that keeps them
-//! (`Keeps before after`), or adds bytes to them (`Appends before after bytes`), kept the writer
-//! and its bytes. `x.entry` is the argument `x` as it was passed.
+//! A buffered writer whose contract says that its writer stays the same, and loses no byte
+//! (`held`).
 
 ghost use Rattle.std.specs.Prelude.{◌≡◌, ℕ, ◌+◌, ◌≤◌, [], length, take, vec_len, vec_capacity, MatchOption, OnOk, IfNone, IfSome, IsSome};
 ghost use Rattle.std.specs.Io.KnownBytes.{Appends, Keeps};
@@ -162,8 +156,7 @@ impl<W: Write, S: Start> Write for Buffered<'_, W, S> {
     }
 }
 
-/// Where there is room, short strings, digits and short lines are added to the buffer at once. Each
-/// call returns whether it added all; if not, it added nothing.
+/// Where there is room, short strings, digits and short lines are added to the buffer at once.
 impl<W: Write, S: Start> Outlet for Buffered<'_, W, S> {
     #[inline(always)]
     fn put_string(&mut self, string: &[u8]) -> bool {

@@ -1,14 +1,4 @@
 //! What the program does, over any reader and any writers (docs/JZONFMT.md).
-//!
-//! In clauses, `W.contents w` are the bytes of the writer `w`, and `R.remaining r` those that the
-//! reader `r` has left, if they are known. `WritesWhole bytes result before after` says that these
-//! bytes are written, or after an error a prefix of them.
-//! `Answers reading layout input result before after` says what the result for an input is: at `Ok`
-//! the line of the text's value is written, at `Write` a prefix of it, and after any other fault
-//! nothing. `Runs` says so of an input that is read first. `Drives` says that for invalid arguments
-//! the status is 2 and nothing is read or written, and for others the status is that of the result
-//! of `Runs`. Names that begin with `asked_` define what the arguments ask for. `text layout v` is
-//! the text of the value `v`, and `line layout v` this text and a newline.
 
 ghost use Rattle.std.specs.Prelude.{◌≡◌, ℕ, List, [], IfOk, IfErr, OnOk, map, option_map, string_bytes, vec_len};
 ghost use Rattle.std.specs.Io.KnownBytes.{Consumes, Keeps};
@@ -30,17 +20,14 @@ use std::{fmt, io, mem};
 pub enum Layout {
     /// Without whitespace.
     Compact,
-    /// With a new line before each element, each entry and the closing bracket of a container that
-    /// isn't empty, and on it this many spaces for each container around.
+    /// With lines, and this many spaces for each container around, as `JsonValue::pretty` has them.
     Pretty(u16),
 }
 
 /// How a text is read and printed.
 #[derive(Clone, Copy, Debug)]
 pub struct Options {
-    /// How it is read.
     pub reading: Reading,
-    /// How it is printed.
     pub layout: Layout,
 }
 
@@ -61,7 +48,7 @@ pub enum RunFault {
 }
 
 impl RunFault {
-    /// The exit status: 1 for rejected input, 3 where reading, writing or an allocation failed.
+    /// The exit status (docs/JZONFMT.md).
     pub fn status(&self) -> u8
         ensures { result ≡ fault_status self.now }
     {
@@ -72,7 +59,7 @@ impl RunFault {
     }
 }
 
-/// The message, without a newline. (`output` is the text that is written.)
+/// The message, without a newline.
 impl fmt::Display for RunFault {
     ghost use Rattle.std.specs.Prelude.{Some};
     ghost use Rattle.jzonfmt.specs.Drive.{fault_text};
@@ -90,7 +77,6 @@ impl fmt::Display for RunFault {
     }
 }
 
-/// `Memory`. (`from_gives` says what `from` returns.)
 impl From<AllocError> for RunFault {
     ghost use Rattle.jzonfmt.specs.declared.engine.RunFault.TheVariants.{Memory};
 
@@ -101,7 +87,6 @@ impl From<AllocError> for RunFault {
     }
 }
 
-/// `Memory` for `OutOfMemory`, and `Json` for any other error of the library.
 impl From<Error> for RunFault {
     ghost use Rattle.std.specs.Prelude.{◌≡◌};
     ghost use Rattle.jzonfmt.specs.Run.{fault_of};
@@ -139,8 +124,7 @@ pub fn run<R: Read, W: Write>(
     print_input(alloc, input.as_slice(), writer, reading, layout)
 }
 
-/// Reads to the end, in chunks. The clauses say that an `Ok` has all bytes of the reader, and that
-/// a fault is the reader's or a failed allocation. In each case some of its bytes are read.
+/// Reads to the end, in chunks.
 fn read_input<R: Read>(alloc: Global, reader: &mut R) -> Result<Vec<u8>, RunFault>
     ensures all { IfOk result
         (λ input. ReadsInput result (R.remaining reader.old) (R.remaining reader.new) input.items) }
@@ -191,9 +175,8 @@ fn print_input<W: Write>(
     answer.map_err(RunFault::Write)
 }
 
-/// Writes the text of the value in the layout and a newline, buffered in `memory`. After an error a
-/// prefix of them is written. `S.start`, which only the proof has, is how many bytes the writer
-/// has (`known_len`: 0 if that isn't known).
+/// Writes the text of the value in the layout and a newline, buffered in `memory`. `S.start`, which
+/// only the proof has, is how many bytes the writer has (`known_len`).
 fn write_line<W: Write, S: Start>(
     writer: &mut W,
     memory: Vec<u8>,
@@ -213,8 +196,7 @@ fn write_line<W: Write, S: Start>(
     answer
 }
 
-/// Writes the text and a newline after what is held, and writes out the buffer. In the clauses,
-/// `held` are the writer's bytes and those in the buffer, and `left` the latter alone.
+/// Writes the text and a newline after what is held, and writes out the buffer.
 fn write_held<W: Write, S: Start>(
     buffered: &mut Buffered<'_, W, S>,
     value: &JsonValue,
@@ -229,7 +211,6 @@ fn write_held<W: Write, S: Start>(
     buffered.write_out()
 }
 
-/// Writes the text of the value in the layout.
 fn write_text<W: Outlet>(writer: &mut W, value: &JsonValue, layout: Layout) -> io::Result<()>
     ensures { WritesWhole (text layout (view value.now)) result (W.Write.contents writer.old)
         (W.Write.contents writer.new) }
@@ -240,10 +221,9 @@ fn write_text<W: Outlet>(writer: &mut W, value: &JsonValue, layout: Layout) -> i
     }
 }
 
-/// The program, apart from where its arguments and streams come from: reads the arguments, runs,
-/// flushes the writer after an `Ok`, writes the message of a fault to `faults`, and returns the
-/// exit status: 0, 2 if the arguments are invalid, or that of the fault. A failed write of that
-/// message is ignored.
+/// The program, apart from where its arguments and streams come from. Flushes the writer after an
+/// `Ok`, writes the message of a fault to `faults`, and returns the exit status. A failed write of
+/// that message is ignored.
 pub fn drive<R: Read, W: Write, F: Write>(
     alloc: Global,
     words: &[String],
@@ -266,8 +246,6 @@ pub fn drive<R: Read, W: Write, F: Write>(
     }
 }
 
-/// The options that the arguments name: a layout, and maybe `--strict` before or after it. `None`
-/// if the arguments are invalid.
 fn options_of(words: &[String]) -> Option<Options>
     ensures { result ≡ asked_options (map string_bytes words.now) }
 {
@@ -279,7 +257,7 @@ fn options_of(words: &[String]) -> Option<Options>
 }
 
 /// Whether `--strict` is the first argument, or the last of three; and the other arguments, which
-/// `layout_of` judges. `asking strict layout` are the options of this reading and this layout.
+/// `layout_of` judges.
 fn split_strict(words: &[String]) -> (bool, &[String])
     ensures { asked_options (map string_bytes words.now)
         ≡ option_map (asking result.0) (asked_layout (map string_bytes result.1.now)) }
@@ -291,8 +269,6 @@ fn split_strict(words: &[String]) -> (bool, &[String])
     }
 }
 
-/// The layout that the arguments name: the compact one if there are none, a pretty one for
-/// `--pretty N`. `None` for any others.
 fn layout_of(words: &[String]) -> Option<Layout>
     ensures { result ≡ asked_layout (map string_bytes words.now) }
 {
@@ -305,8 +281,6 @@ fn layout_of(words: &[String]) -> Option<Layout>
     }
 }
 
-/// The number of spaces that an argument of one to five decimal digits names; `None` for any other
-/// argument, and above 65535.
 fn spaces_of(word: &str) -> Option<u16>
     ensures { result ≡ asked_spaces word.now }
 {

@@ -42,8 +42,9 @@ pub data Role : Type 0 where
   as_value : Frames → Role
   as_key : Frames → EntriesSoFar → ℕ → Role
 
--- The state inside a string. A code unit that is being read is a number, with the count of digits missing after the
--- next one.
+-- The state inside a string: between characters, after a backslash, in the digits of an escape, or before or in the
+-- second escape of a surrogate pair, after the code unit of the first. A code unit that is being read is a number, with
+-- the count of digits missing after the next one.
 pub data StringState : Type 0 where
   between : StringState
   after_backslash : StringState
@@ -52,6 +53,8 @@ pub data StringState : Type 0 where
   second_backslash : ℕ → StringState
   second_code : ℕ → ℕ → ℕ → StringState
 
+-- Where the next character is: before a value or a key, in a literal (its value, the next letter and those after it),
+-- in a number or a string, or after a key or a value. `Frames` are the open containers.
 pub data State : Type 0 where
   before : Frames → State
   before_key : Frames → EntriesSoFar → State
@@ -81,6 +84,7 @@ pub data Move : Type 0 where
   bad : Move
   bad_deep : Move
 
+-- how many containers these are
 abbrev pub frames_depth : Frames → ℕ
 frames_depth no_frames = zero
 frames_depth (array_frame fs vs) = suc (frames_depth fs)
@@ -93,26 +97,31 @@ is_fresh (array_frame fs []) = true
 is_fresh (array_frame fs (v ∷ vs)) = false
 is_fresh (object_frame fs es k) = false
 
+-- the breach of a value in fs: it is the first of its array, and too many containers are open
 abbrev pub value_mark : Reading → Frames → Option Breach
 value_mark r no_frames = None
 value_mark r (array_frame fs []) = deep_if r (frames_depth fs)
 value_mark r (array_frame fs (v ∷ vs)) = None
 value_mark r (object_frame fs es k) = None
 
+-- the breach of a key: it is the first of its object, and too many containers are open
 abbrev pub key_mark : Reading → Frames → EntriesSoFar → Option Breach
 key_mark r fs [] = deep_if r (frames_depth fs)
 key_mark r fs (e ∷ es) = None
 
+-- what a character that isn't allowed leads to, where another one would have this breach
 abbrev pub bad_at : Option Breach → Move
 bad_at None = bad
 bad_at (Some b) = bad_deep
 
 -- ---- before and after values
 
+-- a `]` where a value is due: only an array without elements may end
 abbrev pub move_empty_array : Frames → Move
 move_empty_array (array_frame fs []) = go None (after_value fs (value.array value.no_values))
 move_empty_array _ = bad
 
+-- before a value
 abbrev pub move_before : Reading → Class → Frames → ℕ → Move
 move_before r whitespace fs c = go None (before fs)
 move_before r digits fs c = go (value_mark r fs) (numeral_after_first fs false c)
@@ -126,34 +135,41 @@ move_before r begins_true fs c = go (value_mark r fs) (word fs (value.boolean tr
 move_before r begins_false fs c = go (value_mark r fs) (word fs (value.boolean false) 97 (108 ∷ 115 ∷ 101 ∷ []))
 move_before r _ fs c = bad_at (value_mark r fs)
 
+-- a `}` where a key is due: only an object without entries may end
 abbrev pub move_empty_object : Frames → EntriesSoFar → Move
 move_empty_object fs [] = go None (after_value fs (value.object value.no_pairs))
 move_empty_object fs (e ∷ es) = bad
 
+-- before a key
 abbrev pub move_before_key : Reading → Class → Frames → EntriesSoFar → ℕ → Move
 move_before_key r whitespace fs es left = go None (before_key fs es)
 move_before_key r quote fs es left = go (key_mark r fs es) (string (as_key fs es left) [] between)
 move_before_key r closes_object fs es left = move_empty_object fs es
 move_before_key r _ fs es left = bad_at (key_mark r fs es)
 
+-- between a key and its colon
 abbrev pub move_after_key : Class → Frames → EntriesSoFar → List ℕ → Move
 move_after_key whitespace fs es k = go None (after_key fs es k)
 move_after_key colon fs es k = go None (before (object_frame fs es k))
 move_after_key _ fs es k = bad
 
+-- a comma after the value v
 abbrev pub move_comma : Frames → Value → Move
 move_comma no_frames v = bad
 move_comma (array_frame fs vs) v = go None (before (array_frame fs (vs ++ v ∷ [])))
 move_comma (object_frame fs es k) v = go None (before_key fs (put k v es))
 
+-- a `]` after the value v
 abbrev pub move_close_array : Frames → Value → Move
 move_close_array (array_frame fs vs) v = go None (after_value fs (value.array (values_of (vs ++ v ∷ []))))
 move_close_array _ v = bad
 
+-- a `}` after the value v
 abbrev pub move_close_object : Frames → Value → Move
 move_close_object (object_frame fs es k) v = go None (after_value fs (value.object (pairs_of (put k v es))))
 move_close_object _ v = bad
 
+-- after the value v
 abbrev pub move_after_value : Class → Frames → Value → Move
 move_after_value whitespace fs v = go None (after_value fs v)
 move_after_value comma fs v = move_comma fs v
@@ -163,22 +179,27 @@ move_after_value _ fs v = bad
 
 -- ---- numbers
 
+-- the value of a number, from its minus, its digits and its exponent
 abbrev pub number_value : Bool → List ℕ → List ℕ → Option Exponent → Value
 number_value negative ws fs e =
     value.number (number_of (record { negative = negative; whole = ws; fraction = fs; exponent = e }))
 
+-- the exponent of this letter, sign and digits
 abbrev pub exponent_of : ℕ → Sign → List ℕ → Option Exponent
 exponent_of l s ds = Some (record { letter = l; sign = s; digits = ds })
 
+-- after the digits before a point
 abbrev pub move_after_whole : Class → Frames → Bool → List ℕ → ℕ → Move
 move_after_whole point fs negative ws c = go None (numeral fs negative (pointed ws))
 move_after_whole letter_e fs negative ws c = go None (numeral fs negative (after_letter ws [] c))
 move_after_whole class fs negative ws c = move_after_value class fs (number_value negative ws [] None)
 
+-- after the digits after a point
 abbrev pub move_after_fraction : Class → Frames → Bool → List ℕ → List ℕ → ℕ → Move
 move_after_fraction letter_e fs negative ws ds c = go None (numeral fs negative (after_letter ws ds c))
 move_after_fraction class fs negative ws ds c = move_after_value class fs (number_value negative ws ds None)
 
+-- in a number
 abbrev pub move_numeral : NumberState → Class → Frames → Bool → ℕ → Move
 move_numeral after_minus digits fs negative c = go None (numeral_after_first fs true c)
 move_numeral after_minus _ fs negative c = bad
@@ -215,12 +236,14 @@ abbrev pub closed_string : Reading → Role → List ℕ → ℕ → Move
 closed_string r (as_value fs) bs left = go None (after_value fs (value.text (kind_of bs) bs))
 closed_string r (as_key fs es opened) bs left = go (repeated_if r es bs (opened - left)) (after_key fs es bs)
 
+-- between the characters of a string
 abbrev pub move_between : Reading → Role → List ℕ → ℕ → ℕ → Move
 move_between r role bs c left =
     if c == quotation_mark then closed_string r role bs left
     else (if c == escape then go None (string role bs after_backslash)
     else (if is_unescaped c then go None (string role (bs ++ encode_utf8 c) between) else bad))
 
+-- after a backslash
 abbrev pub move_after_backslash : Role → List ℕ → ℕ → Move
 move_after_backslash role bs c =
     if c == 117 then go None (string role bs (code 3 0))
@@ -230,22 +253,27 @@ move_after_backslash role bs c =
 abbrev pub add_hex : ℕ → ℕ → ℕ
 add_hex u c = u * 16 + digit_value c
 
+-- after the four digits of an escape: a surrogate needs a second escape, any other code unit is a character
 abbrev pub after_unit : Bool → Role → List ℕ → ℕ → State
 after_unit true role bs u = string role bs (second u)
 after_unit false role bs u = string role (bs ++ encode_utf8 u) between
 
+-- a digit of an escape
 abbrev pub move_code : Role → List ℕ → ℕ → ℕ → ℕ → Move
 move_code role bs zero u c = go None (after_unit (is_surrogate (add_hex u c)) role bs (add_hex u c))
 move_code role bs (suc n) u c = go None (string role bs (code n (add_hex u c)))
 
+-- after two surrogates, which may be a pair
 abbrev pub move_pair : Bool → Role → List ℕ → ℕ → ℕ → Move
 move_pair true role bs u v = go None (string role (bs ++ encode_utf8 (pair_char u v)) between)
 move_pair false role bs u v = go (Some pair) (string role bs between)
 
+-- a digit of the second escape
 abbrev pub move_second_code : Role → List ℕ → ℕ → ℕ → ℕ → ℕ → Move
 move_second_code role bs u zero v c = move_pair (is_high u && is_low (add_hex v c)) role bs u (add_hex v c)
 move_second_code role bs u (suc n) v c = go None (string role bs (second_code u n (add_hex v c)))
 
+-- in a string
 abbrev pub move_string : Reading → StringState → Role → List ℕ → ℕ → ℕ → Move
 move_string r between role bs c left = move_between r role bs c left
 move_string r after_backslash role bs c left = move_after_backslash role bs c
@@ -256,6 +284,7 @@ move_string r (second_code u n v) role bs c left = if is_ascii_hexdigit c then m
 
 -- ---- the automaton
 
+-- the state before these letters, the last of the literal of the value v
 abbrev pub past_letter : Frames → Value → List ℕ → State
 past_letter fs v [] = after_value fs v
 past_letter fs v (l ∷ ls) = word fs v l ls
@@ -275,10 +304,12 @@ pub data Outcome : Type 0 where
   meant : Value → Outcome
   refused : Fault → List ℕ → Outcome
 
+-- the outcome at the end of the text after the value v: no container may be open
 abbrev pub meant_at : Frames → Value → Outcome
 meant_at no_frames v = meant v
 meant_at _ v = refused Fault.end []
 
+-- the outcome at the end of the text in a number
 abbrev pub last_numeral : NumberState → Frames → Bool → Outcome
 last_numeral zero_read fs negative = meant_at fs (number_value negative (zero_digit ∷ []) [] None)
 last_numeral (whole ds) fs negative = meant_at fs (number_value negative (onto ds []) [] None)
@@ -293,6 +324,7 @@ last (numeral fs negative x) = last_numeral x fs negative
 last (after_value fs v) = meant_at fs v
 last _ = refused Fault.end []
 
+-- the outcome of a move: that of the next state, or a fault at the character with which `rest` begins
 abbrev pub outcome_on : Move → (State → Outcome) → List ℕ → Outcome
 outcome_on (go None p) f rest = f p
 outcome_on (go (Some b) p) f rest = refused (limit b) rest

@@ -1,5 +1,5 @@
-//! Keys without an index are compared one by one. Up to 32 keys have none, unless it is left from
-//! when there were more. In clauses, `bytes_eq` is the equality of keys.
+//! Keys without an index are compared one by one. Up to `LINEAR_MAX` keys have none, unless it is
+//! left from when there were more.
 ghost use Rattle.std.specs.Prelude.{◌≡◌, ◌-◌, length, IsTrue, ◌↔◌, slice_index};
 ghost use Rattle.std.specs.List.{list_any, position, IsDistinct};
 ghost use Rattle.std.specs.Str.{bytes_eq};
@@ -7,8 +7,7 @@ ghost use Rattle.std.specs.Str.{bytes_eq};
 use super::filter::Filter;
 use crate::key::Key;
 
-/// Up to how many keys are few: a look-up compares them one by one, and a filter of 256 bits is
-/// enough for them.
+/// Up to how many keys are few: they have no index, and one filter is enough for them.
 pub const LINEAR_MAX: usize = 32;
 
 /// Up to how many keys are compared with each other to see whether one repeats. Of more keys, a
@@ -42,7 +41,6 @@ fn are_equal(a: &str, b: &str) -> bool
     a.len() == b.len() && last_byte(a) == last_byte(b) && have_same_bytes(a, b)
 }
 
-/// The position of the key of this name, or `None` if there is none.
 #[inline(always)]
 pub fn position(keys: &[Key], name: &str) -> Option<usize>
     ensures { result ≡ position (λ k. bytes_eq k name.now) keys.now }
@@ -50,7 +48,6 @@ pub fn position(keys: &[Key], name: &str) -> Option<usize>
     keys.iter().position(|key| are_equal(key.as_str(), name))
 }
 
-/// Whether a key has this name.
 pub fn has_name(keys: &[Key], name: &str) -> bool
     ensures { result ≡ list_any (λ k. bytes_eq k name.now) keys.now }
 {
@@ -72,7 +69,8 @@ fn are_distinct_by_filter(keys: &[Key]) -> bool
     true
 }
 
-/// Whether no key repeats. Up to 8 keys are compared with each other, and more by a filter.
+/// Whether no key repeats. Up to `COMPARED_MAX` keys are compared with each other, and more by a
+/// filter.
 #[inline(always)]
 pub fn are_distinct(keys: &[Key]) -> bool
     ensures { IsTrue result ↔ IsDistinct bytes_eq keys.now }

@@ -1,5 +1,4 @@
-//! A filter of few keys: most absent names are rejected without comparing keys. In clauses, `HasBit
-//! words key` says that the bit of a key is set, and `HaveBits keys words` says it of all keys.
+//! A filter of few keys: most absent names are rejected without comparing keys.
 ghost use Rattle.std.specs.Prelude.{◌≡◌, ◌<◌, ◌++◌, ◌∷◌, [], true, List, ℕ};
 ghost use Rattle.std.specs.List.{list_any};
 ghost use Rattle.std.specs.Str.{bytes_eq};
@@ -34,7 +33,6 @@ fn bit_of(name: &str) -> usize
 }
 
 impl Filter {
-    /// No bit is set.
     pub fn new() -> Filter
         ensures { HaveBits [] result.words }
     {

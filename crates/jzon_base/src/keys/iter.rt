@@ -1,8 +1,4 @@
-//! An iterator over keys. The ghost member `next_gives` says that `next` yields the first of those
-//! that are left, `next_back_gives` that `next_back` yields the last, and `remaining` how many are
-//! left at most. (`λ s. s`: a clause sees the iterator as the list of those.) At `size_hint`,
-//! `lower` and `upper` are the clauses of std's trait, and `exact` says more: both bounds are the
-//! number of keys that are left.
+//! An iterator over keys, from both ends.
 ghost use Rattle.std.specs.Prelude.{◌≡◌, List, ℕ, [], length, IfSome, Some};
 ghost use Rattle.std.specs.Iterator.{YieldsFirstRef, YieldsLastRef, item_count, at_most, UpTo};
 ghost use Rattle.std.specs.Iterator.SizeHint.{IsWithinCount};
@@ -13,7 +9,7 @@ use std::iter::FusedIterator;
 use std::marker::Model;
 use std::slice;
 
-/// The keys, each by its text. A clause sees the list of those that are left.
+/// The keys that are left, each by its text.
 #[derive(Drop)]
 pub struct Iter<'a> {
     keys: slice::Iter<'a, Key>,
@@ -26,7 +22,6 @@ impl<'a> Model for Iter<'a> {
 }
 
 impl<'a> Iter<'a> {
-    /// All of these keys.
     pub(super) fn new(keys: &'a [Key]) -> Iter<'a>
         ensures { result ≡ keys.now }
     {

@@ -1,10 +1,4 @@
 //! Keys and values that are kept, and the index of the keys that are left.
-//!
-//! Clauses on a closure: `CallableOnEachPair .. keep entries` says that `keep` accepts each entry,
-//! after calls for those before it; `RetainsPairs .. keep before after`, that `keep` was called for
-//! each entry of `before` in turn, and that `after` has those for which it returned `true`, with
-//! the values that it left there. `TakesPair .. keep key value` says that `keep` accepts an entry,
-//! and `CalledAtPair ..` what one call returns, and what the value and `keep` are after it.
 ghost use Rattle.std.specs.Prelude.{◌≡◌, length};
 ghost use Rattle.std.specs.List.{zip};
 ghost use Rattle.std.specs.Map.Calls.{CalledAtPair, CallableOnEachPair, RetainsPairs, TakesPair};

@@ -1,14 +1,4 @@
 //! The keys and the values of `Pairs`, which are in its box.
-//!
-//! In clauses, `find k entries` is the value of the key `k`, if it is there. `put k v entries` are
-//! the entries with the value `v` at `k`, last if `k` was missing; `with_default k v` changes
-//! nothing if `k` is there. `set_value entries i v` replaces the value at position `i`. `keys_of`
-//! and `values_of` are the keys and the values alone.
-//!
-//! A clause `writes_back` says what the receiver is once a returned `&mut` is no longer used.
-//! `Lends R S self.entry result f` says that it is `f w`, for the last value `w` to which the
-//! reference referred; `R` and `S` name the types of the receiver and of `w`. `ensures*` and `sem
-//! 𝓛` are the fixed wording of such a clause.
 ghost use Rattle.std.specs.Prelude.{◌≡◌, ◌<◌, List, ℕ, length, remove, slice_get, Some, None, OnOk, OnErr, IfOk};
 ghost use Rattle.std.specs.List.{position, zip};
 ghost use Rattle.std.specs.Str.{bytes_eq};
@@ -18,7 +8,7 @@ use crate::keys::Keys;
 use std::alloc::{AllocError, Global};
 use std::marker::Model;
 
-/// Distinct keys, and as many values in the order of their keys. A clause sees the list of entries.
+/// Distinct keys, and as many values in the order of their keys.
 #[derive(Drop)]
 pub struct Contents<V> {
     pub(super) keys: Keys,
@@ -40,14 +30,13 @@ impl<V> Contents<V> {
     ghost use Rattle.jzon_base.specs.contracts.pairs.contents.Contents.{the_row};
     ghost use Rattle.jzon_base.specs.PairList.{find, put, set_value, with_default, keys_of, values_of};
 
-    /// The keys in their order.
     pub fn keys(&self) -> &Keys
         ensures { result.now ≡ keys_of self.now }
     {
         &self.keys
     }
 
-    /// The value at a position, to be written: nothing else changes.
+    /// As `Pairs::value_mut`.
     pub fn value_mut(&mut self, index: usize) -> &mut V
         requires { index < length self.old }
         ensures* writes_back { sem 𝓛 (Lends (the_row V.row) V.row self.entry result
@@ -57,8 +46,7 @@ impl<V> Contents<V> {
         &mut self.values[index]
     }
 
-    /// Puts a value under a key. If the key is there, its value is replaced, which takes no memory;
-    /// else the entry is put last. The error is a failed allocation, and then nothing has changed.
+    /// As `Pairs::insert`.
     #[inline(always)]
     #[tactic(auto, using(crate::proofs::Entries::PairPositions::places))]
     pub fn insert(&mut self, alloc: Global, name: &str, value: V) -> Result<(), AllocError>
@@ -77,9 +65,7 @@ impl<V> Contents<V> {
         Ok(())
     }
 
-    /// The position of a key. If the key is missing, it is put last with `value`; if it is there,
-    /// `value` is dropped, and no memory is taken. The error is a failed allocation, and then
-    /// nothing has changed.
+    /// As `Pairs::place`.
     #[tactic(auto, using(crate::proofs::Entries::PairPositions::places))]
     pub fn place(&mut self, alloc: Global, name: &str, value: V) -> Result<usize, AllocError>
     where
@@ -102,8 +88,7 @@ impl<V> Contents<V> {
         }
     }
 
-    /// Removes the entry at a position, and returns its value. The others keep their order. Takes
-    /// no memory.
+    /// As `Pairs::remove_at`.
     pub fn remove_at(&mut self, index: usize) -> V
         requires { index < length self.old }
         ensures value { slice_get (values_of self.old) index ≡ Some result }

@@ -1,9 +1,4 @@
-//! An iterator over entries. The ghost member `next_gives` says that `next` yields the first of
-//! those that are left, `next_back_gives` that `next_back` yields the last, and `remaining` how
-//! many are left at most. (`λ s. s`: a clause sees the iterator as the list of those.) `λ x.
-//! (x.0.now, x.1.now)` is the entry to which a yielded pair of references refers. At `size_hint`,
-//! `lower` and `upper` are the clauses of std's trait, and `exact` says more: both bounds are the
-//! number of entries that are left.
+//! An iterator over entries, from both ends.
 ghost use Rattle.std.specs.Prelude.{◌≡◌, List, ℕ, [], length, IfSome, Some};
 ghost use Rattle.std.specs.Coded.{coded_ℕ, coded_list, coded×};
 ghost use Rattle.std.specs.Iterator.{YieldsFirstBy, YieldsLastBy, item_count, at_most, UpTo};
@@ -17,8 +12,7 @@ use std::iter::FusedIterator;
 use std::marker::Model;
 use std::slice;
 
-/// The entries, each as its key's text and its value. A clause sees the list of those that are
-/// left.
+/// The entries that are left, each as its key's text and its value.
 #[derive(Drop)]
 pub struct Iter<'a, V> {
     keys: keys::Iter<'a>,
@@ -84,7 +78,6 @@ impl<'a, V> ExactSizeIterator for Iter<'a, V> {
 impl<'a, V> FusedIterator for Iter<'a, V> {}
 
 impl<V> Pairs<V> {
-    /// The entries in their order, each as its key's text and its value.
     pub fn iter(&self) -> Iter<'_, V>
         ensures { result ≡ self.now }
     {

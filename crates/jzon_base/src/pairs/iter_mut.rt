@@ -1,10 +1,6 @@
-//! An iterator over entries whose values may be written. The ghost member `next_gives` says that
-//! `next` yields the first of those that are left, `next_back_gives` that `next_back` yields the
-//! last, and `remaining` how many are left at most. `iter_mut_rest` are those that are left, and
-//! `λ x. (x.0.now, x.1.now)` is the entry to which a yielded pair of references refers. At
-//! `size_hint`, `lower` and `upper` are the clauses of std's trait, and `exact` says more: both
-//! bounds are the number of entries that are left. No clause says what is written through a value
-//! (docs/TOOLCHAIN.md, "Clauses for iterators, and for allocations that succeed").
+//! An iterator over entries whose values may be written, from both ends. No clause says what is
+//! written through a value (docs/TOOLCHAIN.md, "10. Clauses for iterators, and for allocations that
+//! succeed").
 ghost use Rattle.std.specs.Prelude.{◌≡◌, [], length, IfSome, Some};
 ghost use Rattle.std.specs.Iterator.{YieldsFirstBy, YieldsLastBy, item_count, at_most, UpTo};
 ghost use Rattle.std.specs.Iterator.SizeHint.{IsWithinCount};
@@ -15,9 +11,7 @@ use crate::keys;
 use std::iter::FusedIterator;
 use std::slice;
 
-/// The entries, each as its key's text and its value, which may be written.
-///
-/// It has no model, so a clause says by `iter_mut_rest` which entries are left.
+/// The entries that are left, each as its key's text and its value, which may be written.
 #[derive(Drop)]
 pub struct IterMut<'a, V> {
     keys: keys::Iter<'a>,
@@ -84,7 +78,6 @@ impl<'a, V> FusedIterator for IterMut<'a, V> {}
 impl<V> Pairs<V> {
     ghost use Rattle.jzon_base.specs.IterMut.{iter_mut_rest};
 
-    /// The entries in their order, each as its key's text and its value, which may be written.
     pub fn iter_mut(&mut self) -> IterMut<'_, V>
         ensures rest { iter_mut_rest result ≡ self.old }
     {

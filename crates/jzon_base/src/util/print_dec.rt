@@ -1,15 +1,5 @@
-//! The text of a number (docs/RULES.md, "Printed numbers"; RFC 8259, section 6).
-//!
-//! In clauses, 45, 46 and 48 are the bytes `-`, `.` and `0`, `decimal n` are the digits of `n`, and
-//! `array_string_len text` is how many bytes `text` has. `number_text` is the text of a number. Its
-//! parts are `sign_text`, a minus or nothing, and `magnitude_text digits exponent`. This is made of
-//! `fraction_text digits k`, the digits divided by `10 ^ k`; `point_after k digits`, with a point
-//! after `k` of them; `point_after_first digits`, the same with 1, if there are more; and
-//! `small_exponent_text`, which `push_small_exponent` adds.
-//!
-//! `W.contents wr` are the bytes that a writer holds, if they are known; `Appends before after
-//! bytes` says that after the call they are those before it and then `bytes`, and
-//! `AppendsBeginning` says so of a prefix of `bytes`.
+//! The text of a number (docs/RULES.md, "Printed numbers"; RFC 8259, section 6). `push_digits` adds
+//! that of a common number in a few stores; `number_text` makes that of any other, part by part.
 
 ghost use Rattle.std.specs.Prelude.{◌≡◌, ◌+◌, ◌-◌, ◌≤◌, ◌<◌, ◌++◌, ◌∷◌, length, take, drop, replicate, decimal, IsAscii, IsTrue, false, OnOk, OnErr, vec_len, vec_capacity};
 ghost use Rattle.std.specs.Io.KnownBytes.{Appends};
@@ -36,8 +26,8 @@ const DIGITS_ROOM: usize = 48;
 
 type NumberText = ArrayString<MAX_LEN>;
 
-/// Writes the text of the number `n * 10 ^ exponent` with its sign, at most 29 bytes. An error of
-/// the writer is returned; a prefix of the text is then written.
+/// Writes the text of the number `n * 10 ^ exponent` with its sign, at most `MAX_LEN` bytes. An
+/// error of the writer is returned; a prefix of the text is then written.
 pub fn write<W: Write>(wr: &mut W, positive: bool, n: u64, exponent: i16) -> io::Result<()>
     ensures ok { OnOk result
         (Appends (W.contents wr.old) (W.contents wr.new) (number_text positive n exponent)) }
@@ -50,8 +40,9 @@ pub fn write<W: Write>(wr: &mut W, positive: bool, n: u64, exponent: i16) -> io:
 }
 
 /// Adds the text of a common number, in a few stores, and returns whether it did. The caller writes
-/// any other number by `number_text`. A common number isn't 0; its exponent is 0 to -16, and its
-/// text doesn't begin with `0.` or `-0.`. Nothing is added either if fewer than 48 bytes are free.
+/// any other number by `number_text`. A common number isn't 0; its exponent is 0 to -`PLACES`, and
+/// its text doesn't begin with `0.` or `-0.`. Nothing is added either if fewer than `DIGITS_ROOM`
+/// bytes are free.
 #[doc(hidden)]
 #[inline(always)]
 pub fn push_digits(bytes: &mut Vec<u8>, positive: bool, mantissa: u64, exponent: i16) -> bool
@@ -106,9 +97,9 @@ fn put_point(room: &mut [u8], point: usize)
     room[point] = b'.';
 }
 
-/// Adds 48 bytes, of which the first are `minuses` minuses and the digits of `n`, and returns the
-/// offset after these digits. The bytes after that are room for `put_point`; the caller cuts them
-/// off.
+/// Adds `DIGITS_ROOM` bytes, of which the first are `minuses` minuses and the digits of `n`, and
+/// returns the offset after these digits. The bytes after that are room for `put_point`; the caller
+/// cuts them off.
 #[inline(always)]
 fn put_after_minuses(bytes: &mut Vec<u8>, minuses: usize, n: u64) -> usize
     requires some { 0 < n }
@@ -130,7 +121,7 @@ fn put_after_minuses(bytes: &mut Vec<u8>, minuses: usize, n: u64) -> usize
     end
 }
 
-/// The text of the number `mantissa * 10 ^ exponent` with its sign, at most 29 bytes.
+/// The text of the number `mantissa * 10 ^ exponent` with its sign.
 #[tactic(auto, using(std::proofs::lemmas::Fmt::decimal_nonempty))]
 pub fn number_text(positive: bool, mantissa: u64, exponent: i16) -> NumberText
     ensures { result.bytes ≡ number_text positive mantissa exponent }
@@ -148,9 +139,7 @@ pub fn number_text(positive: bool, mantissa: u64, exponent: i16) -> NumberText
     text
 }
 
-/// Adds digits with their exponent (docs/RULES.md, "Printed numbers"). For a positive exponent they
-/// get zeros, if they are then at most 20 digits; for one from -1 to -17 a point. For any other
-/// exponent but 0, a point after the first digit and an exponent.
+/// Adds digits with their exponent (docs/RULES.md, "Printed numbers").
 fn push_magnitude(text: &mut NumberText, digits: &str, exponent: i16)
     requires ascii { IsAscii digits.now }
     requires some { 0 < length digits.now }
@@ -196,7 +185,7 @@ fn push_fraction(text: &mut NumberText, digits: &str, places: usize)
 }
 
 /// Adds the exponent of `count` digits divided by `10 ^ places`, if the first digit is before the
-/// point: it is `count - 1 - places`, at most 1. Nothing is added for the exponent 0.
+/// point.
 fn push_small_exponent(text: &mut NumberText, count: usize, places: usize)
     requires count { count ≤ 20 }
     requires small { 18 ≤ places }
@@ -216,7 +205,6 @@ fn push_small_exponent(text: &mut NumberText, count: usize, places: usize)
     text.push_str(buffer.format((places + 1 - count) as u16));
 }
 
-/// Adds digits with a point after the first, if there are more.
 fn push_point_after_first(text: &mut NumberText, digits: &str)
     requires ascii { IsAscii digits.now }
     requires room { array_string_len text.old + length digits.now + 1 ≤ 29 }
@@ -229,7 +217,6 @@ fn push_point_after_first(text: &mut NumberText, digits: &str)
     }
 }
 
-/// Adds digits with a point after `whole` of them.
 fn push_point_after(text: &mut NumberText, digits: &str, whole: usize)
     requires ascii { IsAscii digits.now }
     requires within { whole ≤ length digits.now }
@@ -241,7 +228,6 @@ fn push_point_after(text: &mut NumberText, digits: &str, whole: usize)
     text.push_str(&digits[whole..]);
 }
 
-/// Adds `count` zeros.
 fn push_zeros(text: &mut NumberText, count: usize)
     requires { array_string_len text.old + count ≤ 29 }
     ensures { text.new.bytes ≡ text.old.bytes ++ replicate count 48 }

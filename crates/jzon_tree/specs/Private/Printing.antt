@@ -34,6 +34,7 @@ abbrev pub IsEntry : Style → ℕ → List ℕ × Value → List ℕ → Type 0
 IsEntry s dent e t = (wide : Bool) × (x : List ℕ) × IsTrue (s.colon wide) × Writes s dent e.1 x
     × (t ≡ quoted e.0 ++ (colon_text wide ++ x))
 
+-- the entry at a position
 abbrev pub pair_at : List (List ℕ × Value) → ℕ → List ℕ × Value
 pair_at es p = slice_index_or es p ([], null)
 
@@ -44,7 +45,8 @@ AreMembers s dent es ps b =
     → IsEntry s dent (pair_at es (slice_index_or ps k 0)) (text_at ts (slice_index_or ps k 0)))
     × Items s dent false (map (text_at ts) ps) b
 
--- the effect of writing a text that P allows; at `Err` the prefix is promised only if K holds
+-- the effect of writing a text that P allows; at `Err` the prefix is promised only if K holds (a part that isn't read,
+-- because a hook failed before, isn't known to keep what its type promises)
 abbrev pub PrintsIf : {E : Type 0} → Type 0 → (List ℕ → Type 0) → Emitted → Emitted → Result (Unit {0}) E → Type 0
 PrintsIf K P old new r = MatchResult r (λ _. Added P old new) (λ _. K → Stopped P old new)
 

@@ -1,12 +1,5 @@
 //! `Display` of a value (docs/RULES.md, "Layouts"). It writes to the formatter as it goes, and
-//! allocates nothing. The clause `WritesOnOk .. before result text after` says that an `Ok` wrote
-//! `text`, if the formatter has no options, as for `{}`; after an `Err` nothing is promised of what
-//! was written.
-//!
-//! In clauses, `displayed v` is what is shown of the value `v`, `compact v` is its compact text,
-//! and `quoted s` is a string in quotes, escaped. `view`, `view_object` and `view_values` give what
-//! a value, an object and values mean. Functions that call one another have the same
-//! `#[cycle(..)]`.
+//! allocates nothing.
 
 ghost use Rattle.std.specs.Prelude.{Some};
 ghost use Rattle.std.specs.Fmt.{WritesOnOk};
@@ -54,7 +47,6 @@ fn show<W: fmt::Write>(value: &JsonValue, f: &mut fmt::Formatter<W>) -> fmt::Res
     }
 }
 
-/// Shows an array.
 #[cycle(show)]
 fn show_array<W: fmt::Write>(items: &[JsonValue], f: &mut fmt::Formatter<W>) -> fmt::Result
     ensures { WritesOnOk W.write_str_gives f.old result
@@ -68,7 +60,6 @@ fn show_array<W: fmt::Write>(items: &[JsonValue], f: &mut fmt::Formatter<W>) -> 
     f.write_str("]")
 }
 
-/// Shows an object.
 #[cycle(show)]
 fn show_object<W: fmt::Write>(object: &Object, f: &mut fmt::Formatter<W>) -> fmt::Result
     ensures { WritesOnOk W.write_str_gives f.old result (compact (view_object object.now)) f.new }
@@ -85,7 +76,6 @@ fn show_object<W: fmt::Write>(object: &Object, f: &mut fmt::Formatter<W>) -> fmt
     f.write_str("}")
 }
 
-/// Shows a comma, unless what follows is the first element or entry.
 fn show_comma<W: fmt::Write>(comma: bool, f: &mut fmt::Formatter<W>) -> fmt::Result
     ensures { WritesOnOk W.write_str_gives f.old result (comma_text comma) f.new }
 {
@@ -102,7 +92,6 @@ fn show_string<W: fmt::Write>(text: &str, f: &mut fmt::Formatter<W>) -> fmt::Res
     f.write_str("\"")?;
     let mut rest = text.as_bytes();
     loop {
-        // `plain_len` is the number of bytes before the first that needs an escape.
         let (run, others) = rest.split_at(plain_len(rest));
         show_bytes(run, f)?;
         let Some((byte, others)) = others.split_first() else {

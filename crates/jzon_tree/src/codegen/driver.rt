@@ -1,26 +1,5 @@
 //! Goes over a value or an object, and calls the hooks of a generator. A hook whose name begins
 //! with `try_` stores its error in the slot (`error_slot`); `store` does so for the other hooks.
-//! Functions that call one another have the same `#[cycle(..)]`.
-//!
-//! In clauses, `G.meaning g` is the state of the generator `g`: its bytes, its style, the number of
-//! its open indents (`dent`) and the number of its faults, which are errors that it counted.
-//! `Emits P before after result` says what a hook does to this state: an `Ok` adds bytes that `P`
-//! allows; an `Err` adds a prefix of such bytes, and counts a fault. `Prints` says so of a call of
-//! several hooks; an `Err` of it may leave more indents open.
-//!
-//! `view v` is what the value `v` means. `view_object` is the same for an object, `view_values` for
-//! elements, `view_pairs` and `viewed` for entries. `Writes style dent v` holds of each text of `v`
-//! that the style allows inside of `dent` indents. `IsValue v` says what the types of its parts
-//! promise: numbers in range, strings of UTF-8, distinct keys. `AreValues` says so of elements, and
-//! `ArePairs` and `IsPair` of the keys and values of entries and of one entry.
-//!
-//! `PrintsIf K` promises something of an `Err` only if `K` holds, and `PrintsValue v` is `PrintsIf
-//! (IsValue v)` for the writings of `v`: a part of `v` isn't read after an error, so the proof
-//! doesn't know there whether `v` is a value. `AreItems`, `AreMembers`, `IsEntry`, `IsBetween` and
-//! `IsClosing` allow the bytes of a part: all elements, all entries, one entry, what is before an
-//! element or an entry, and what ends a container. `IsAnswer style keys order` says that the result
-//! of the hook `order` has each position once and is allowed by the style; `positions n order` are
-//! these positions, or 0 to `n - 1` for `None`.
 
 ghost use Rattle.std.specs.Prelude.{◌≡◌, ◌-◌, ◌<◌, [], length, map, slice_index_or, OnOk, OnErr, IsSome};
 ghost use Rattle.jzon_base.specs.PairList.{keys_of};
@@ -133,7 +112,6 @@ fn write_array<G: Generator>(g: &mut G, items: &[JsonValue], slot: &mut ErrorSlo
     close(g, b']', slot)
 }
 
-/// Writes each element after whitespace, and a comma before each but the first.
 #[cycle(write_value)]
 fn write_items<G: Generator>(g: &mut G, items: &[JsonValue], slot: &mut ErrorSlot) -> SlotResult<()>
     ensures written { PrintsIf (AreValues (view_values items.now))
@@ -174,7 +152,7 @@ pub(crate) fn write_pairs<G: Generator>(
 }
 
 /// Writes each entry after whitespace, and a comma before each but the first, in the order that the
-/// hook `order` returned: `None` is the order of insertion.
+/// hook `order` returned.
 #[cycle(write_value)]
 fn write_members<G: Generator>(
     g: &mut G,
@@ -211,7 +189,6 @@ fn position_of(order: &Option<Vec<usize>>, index: usize, count: usize) -> usize
     }
 }
 
-/// Writes an entry: the key with its colon, and the value.
 #[cycle(write_value)]
 fn write_pair<G: Generator>(
     g: &mut G,
@@ -229,7 +206,6 @@ fn write_pair<G: Generator>(
     write_value(g, value, slot)
 }
 
-/// Writes what is before an element or entry: a comma, unless it is the first, and whitespace.
 #[inline(always)]
 fn begin_item<G: Generator>(g: &mut G, comma: bool, slot: &mut ErrorSlot) -> SlotResult<()>
     ensures bytes { Emits (IsBetween (G.meaning g.old).style (G.meaning g.old).dent comma)

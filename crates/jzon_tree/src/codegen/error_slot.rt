@@ -1,7 +1,5 @@
 //! Keeps an 88-byte `io::Error` out of return values: it is stored in a slot, and a one-byte
-//! `Failed` is returned. In clauses, `W.contents writer` are the bytes that the writer has, if its
-//! contract says which. `Sends P before after result` says that a writer receives bytes that `P`
-//! allows at `Ok`, and a prefix of such bytes at `Err`; `Just bytes` allows these bytes alone.
+//! `Failed` is returned.
 #![tactic(auto, using(crate::proofs::Printing::Appends::sent))]
 
 ghost use Rattle.std.specs.Prelude.{◌≡◌, ◌≤◌, Some, Ok, IfErr, IsErr, IsSome, OnOk, OnErr, MatchResult, length, drop};
@@ -20,8 +18,7 @@ pub struct Failed;
 /// The result of a call whose error is stored.
 pub type SlotResult<T> = Result<T, Failed>;
 
-/// Stores an error in the slot, and returns `Failed` for it. Returns the value of an `Ok`, and
-/// leaves the slot as it is.
+/// Stores an error in the slot, and returns `Failed` for it.
 #[inline]
 pub(super) fn store<T>(answer: io::Result<T>, slot: &mut ErrorSlot) -> SlotResult<T>
     ensures answer { MatchResult answer (λ x. result ≡ Ok x) (λ _. IsErr result) }

@@ -1,19 +1,4 @@
 //! The trait `Generator`: its hooks, and the provided methods.
-//!
-//! In clauses, `Emits P before after result` says that an `Ok` adds bytes that `P` allows, and that
-//! an `Err` adds a prefix of such bytes and counts a fault; `Added` and `Failed` are its parts for
-//! `Ok` and `Err`. `Counts` says only that an `Err` counts a fault, and `noted n` is `n` faults and
-//! one more, at most `u64::MAX`. `Just bytes` allows these bytes alone, `IsForm` a colon in the
-//! form of the style, and `IsKey` a key and such a colon. `quoted` and `escaped` are a printed
-//! string with and without its quotes (34 is the byte of one), and `written_text` is a printed
-//! number. `IsAnswer style keys answer` says that this order has each position once and is allowed
-//! by the style. `contents` are the bytes of a writer, if its contract says which. The clause
-//! `writes_back` of `get_writer` says that once the returned reference is no longer used, the
-//! generator is what it was, with the writer as it is then.
-//!
-//! In bodies, `send` writes all bytes to a writer, or stores its error in the slot; `store` stores
-//! an error that a call returned; `take_result` returns the stored error. `plain_len` is the number
-//! of bytes before the first that needs an escape.
 
 ghost use Rattle.std.specs.Prelude.{◌≡◌, ◌+◌, ◌-◌, ◌<◌, ◌≤◌, ◌^◌, ◌∷◌, ◌++◌, [], length, take, drop, MatchResult, OnErr, IsSome};
 ghost use Rattle.std.specs.Borrow.{sem, Lends};
@@ -60,24 +45,18 @@ use std::io::{self, ErrorKind, Write};
 /// | `new_line` | the whitespace before an element, an entry and such a closing bracket |
 /// | `indent`, `dedent` | after such an opening bracket, and before the `new_line` of the closing one |
 ///
-/// A generator has the bytes written so far, the number of open indents, the number of faults so
-/// far, and two things that no hook changes: a style, and the reference that is written through, if
-/// there is one. An `Ok` of a hook adds exactly the hook's bytes. An `Err` is the writer's, or of a
-/// hook of your own. It adds a prefix of the bytes, counts one fault (saturating at `u64::MAX`),
-/// and leaves the open indents. Where the contract of the writer doesn't fix its bytes, that of a
-/// hook doesn't either.
+/// docs/GENERATORS.md, "Hooks", says what each of them must do, and what an `Err` means.
 pub trait Generator {
     /// The writer.
     type T: Write;
 
-    // The bytes written so far, the open indents, the faults so far, the style, and the reference
-    // that is written through, if there is one.
+    // The state of which the contracts speak.
     ghost meaning: { Self → Emitted };
 
     // The generator with this writer instead of its own.
     ghost with_writer: { Self → Self.T → Self };
 
-    /// Lends the writer. Its bytes are the bytes written, before and after.
+    /// Lends the writer.
     fn get_writer(&mut self) -> &mut Self::T
         ensures* writes_back { sem 𝓛 (Lends Self.row Self.T.row self.entry result
             (with_writer self.old)) }
@@ -169,8 +148,7 @@ pub trait Generator {
         self.set_dent(dent - 1);
     }
 
-    /// Adds the string in quotes, escaped. The bytes go through `write` and `write_char`. The bytes
-    /// before the first that needs an escape are added as they are.
+    /// Adds the string in quotes, escaped, by `write` and `write_char`.
     fn write_string(&mut self, string: &str) -> io::Result<()>
         ensures { Emits (Just (quoted string.now)) (meaning self.old) (meaning self.new) result }
     {
@@ -179,7 +157,7 @@ pub trait Generator {
     }
 
     /// Adds the bytes before `start` as they are, those from `start` on escaped, and the closing
-    /// quote. The bytes go through `write` and `write_char`.
+    /// quote, by `write` and `write_char`.
     fn write_string_complex(&mut self, string: &str, start: usize) -> io::Result<()>
         requires { start ≤ length string.now }
         ensures { Emits (Just (take start string.now
@@ -192,7 +170,7 @@ pub trait Generator {
         take_result(step, slot)
     }
 
-    /// Adds the text of the number, or `null` for NaN. The bytes go through `write`.
+    /// Adds the text of the number, or `null` for NaN, by `write`.
     fn write_number(&mut self, num: &Number) -> io::Result<()>
         ensures { Emits (Just (written_text num.now)) (meaning self.old) (meaning self.new) result }
     {
@@ -205,8 +183,7 @@ pub trait Generator {
     }
 
     /// The order in which the entries of the object are written, as their positions, each exactly
-    /// once; `None` is the order of insertion. It is an order that the style allows of the keys. No
-    /// byte is added. An `Err` counts a fault.
+    /// once; `None` is the order of insertion. No byte is added. An `Err` counts a fault.
     fn order(&mut self, object: &Object) -> io::Result<Option<Vec<usize>>>
         ensures { MatchResult result
             (λ answer. Added (Just []) (meaning self.old) (meaning self.new)
@@ -223,7 +200,6 @@ pub trait Generator {
         store(self.write(slice), slot)
     }
 
-    /// `write_char`, as `write_json` calls it.
     #[doc(hidden)]
     fn try_write_char(&mut self, ch: u8, slot: &mut ErrorSlot) -> SlotResult<()>
         ensures bytes { Emits (Just (ch ∷ [])) (meaning self.old) (meaning self.new) result }
@@ -232,7 +208,6 @@ pub trait Generator {
         store(self.write_char(ch), slot)
     }
 
-    /// `write_string`, as `write_json` calls it.
     #[doc(hidden)]
     fn try_write_string(&mut self, string: &str, slot: &mut ErrorSlot) -> SlotResult<()>
         ensures bytes { Emits (Just (quoted string.now)) (meaning self.old) (meaning self.new) result }
@@ -243,7 +218,7 @@ pub trait Generator {
 
     /// Adds the prefix as it is, the text escaped, and the closing quote, by `write` and
     /// `write_char`. The prefix begins with the opening quote, unless this is written already. Runs
-    /// of bytes that need no escape are written whole. An error is stored in the slot.
+    /// of bytes that need no escape are written whole.
     #[doc(hidden)]
     #[inline(never)]
     fn try_write_escaped(
@@ -274,7 +249,7 @@ pub trait Generator {
     }
 
     /// Adds a key in quotes and its colon, by `write_string` and `write_min`. It is one call, so
-    /// that a generator into memory can add both at once. An error is stored in the slot.
+    /// that a generator into memory can add both at once.
     #[doc(hidden)]
     fn try_write_key(&mut self, key: &str, slot: &mut ErrorSlot) -> SlotResult<()>
         ensures bytes { Emits (IsKey (meaning self.old).style key.now) (meaning self.old)
@@ -285,7 +260,6 @@ pub trait Generator {
         store(self.write_min(b": ", b':'), slot)
     }
 
-    /// `write_number`, as `write_json` calls it.
     #[doc(hidden)]
     fn try_write_number(&mut self, num: &Number, slot: &mut ErrorSlot) -> SlotResult<()>
         ensures bytes { Emits (Just (written_text num.now)) (meaning self.old) (meaning self.new) result }
@@ -294,7 +268,6 @@ pub trait Generator {
         store(self.write_number(num), slot)
     }
 
-    /// `new_line`, as `write_json` calls it.
     #[doc(hidden)]
     fn try_new_line(&mut self, slot: &mut ErrorSlot) -> SlotResult<()>
         ensures bytes { Emits (IsAllowedWhitespace (meaning self.old).style (meaning self.old).dent)
@@ -308,6 +281,5 @@ pub trait Generator {
     ghost writer_law: { (g : Self) (w : Self.T)
         → meaning (with_writer g w) ≡ record (meaning g) { out = Self.T.contents w } };
 
-    // The style allows some whitespace, some form of the colon, and some order of distinct keys.
     ghost style_law: { (g : Self) → IsStyle (meaning g).style };
 }

@@ -1,11 +1,5 @@
 //! Layouts: the whitespace of a text, which is written here, and the order of an object's entries
 //! (docs/GENERATORS.md, "Layouts of one's own").
-//!
-//! In clauses, `Sends P before after result` says that a writer receives bytes that `P` allows at
-//! `Ok`, and a prefix of such bytes at `Err`; `Just bytes` allows these bytes alone. `LaysOut style
-//! spaces` says that the style allows the whitespace and the colon that the method `spaces`
-//! selects, and `IsAnswer style keys order` that it allows this order of the keys, which has each
-//! position once. 10 is a newline, and 32 a space.
 
 ghost use Rattle.std.specs.Prelude.{◌≡◌, ◌+◌, ◌<◌, ◌∷◌, ◌++◌, Bool, true, false, IsTrue, IfOk, Ok, None, OnErr, IsSome, replicate};
 ghost use Rattle.jzon_base.specs.PairList.{keys_of};
@@ -67,7 +61,6 @@ pub trait Layout {
             (keys_of (entries_of object.now))) }
         ensures insertion { IsTrue (keeps_order self.now) → result ≡ Ok None };
 
-    // The style allows some whitespace, some form of the colon, and some order of distinct keys.
     ghost style_law: { (l : Self) → IsStyle (style l) };
 }
 
@@ -145,8 +138,7 @@ impl Layout for Pretty {
 }
 
 /// Writes a newline and `spaces` spaces. Most lines begin with few, of which up to 63 are written
-/// with the newline. An error is stored in the slot. `spaces` is an indent count, a `u64`, times a
-/// `u16`, so it needs a `u128`.
+/// with the newline. `spaces` is an indent count, a `u64`, times a `u16`, so it needs a `u128`.
 #[inline(always)]
 pub(super) fn send_line<W: Write>(
     writer: &mut W,
@@ -165,8 +157,9 @@ pub(super) fn send_line<W: Write>(
     Ok(())
 }
 
-/// For an outlet's `put_line`: adds a newline and `spaces` spaces if there are fewer than 8 of them
-/// and there is room for 8 bytes, and returns whether it did. Otherwise nothing is added.
+/// For an outlet's `put_line`: adds a newline and `spaces` spaces if there are fewer than
+/// `LINE_ROOM` of them and there is room for `LINE_ROOM` bytes, and returns whether it did.
+/// Otherwise nothing is added.
 #[inline(always)]
 pub fn push_line(bytes: &mut Vec<u8>, spaces: u128) -> bool
     ensures done { IsTrue result → bytes.new.items ≡ bytes.old.items ++ 10 ∷ replicate spaces 32 }
@@ -184,8 +177,8 @@ pub fn push_line(bytes: &mut Vec<u8>, spaces: u128) -> bool
     true
 }
 
-/// Writes `spaces` spaces, 512 at a time. Cold, because few lines begin with more than 63. An error
-/// is stored in the slot.
+/// Writes `spaces` spaces, as many at a time as `SPACES` has. Cold, because few lines begin with
+/// more than 63.
 #[cold]
 #[inline(never)]
 fn send_spaces<W: Write>(writer: &mut W, spaces: u128, slot: &mut ErrorSlot) -> SlotResult<()>

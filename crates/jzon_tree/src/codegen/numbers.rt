@@ -1,5 +1,4 @@
-//! The texts of numbers (docs/RULES.md, "Printed numbers"). In clauses, `written_text n` is the
-//! printed number.
+//! The texts of numbers (docs/RULES.md, "Printed numbers").
 
 ghost use Rattle.std.specs.Prelude.{◌≡◌, ◌++◌, IsTrue, false};
 ghost use Rattle.jzon_base.specs.NumberText.{written_text};

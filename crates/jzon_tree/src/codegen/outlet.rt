@@ -1,11 +1,4 @@
-//! Where a `TextGenerator` writes (docs/GENERATORS.md, "Layouts of one's own"). In clauses, `Adds
-//! (Just bytes) before after` says that these bytes are added, if the bytes before are known.
-//! `contents` are the bytes of a writer and `out` those of a destination, if the writer's contract
-//! says which; `lender` names the reference that is written through. `quoted` is a printed string
-//! with its quotes, `written_text` a printed number, and `colon_text wide` a colon and, if `wide`,
-//! a space; 10 is a newline, and 32 a space. The clause `writes_back` of `writer` says that once
-//! the returned reference is no longer used, the destination is what it was, with the writer as it
-//! is then.
+//! Where a `TextGenerator` writes (docs/GENERATORS.md, "Layouts of one's own").
 
 ghost use Rattle.std.specs.Prelude.{◌≡◌, ◌++◌, ◌∷◌, [], ℕ, List, Option, None, Some, IsTrue, false, refl, replicate};
 ghost use Rattle.std.specs.Borrow.{GName, sem, Lends};
@@ -65,7 +58,8 @@ pub trait Outlet: Write {
 }
 
 /// Where a `TextGenerator` writes: memory of its own, a borrowed writer, or a borrowed outlet. A
-/// provided method adds nothing, so the generator then writes to the writer.
+/// provided method adds nothing, so the generator then writes to the writer. `Memory` overrides all
+/// of them, and `Through` those that an `Outlet` has.
 pub trait Destination {
     /// The writer.
     type T: Write;
@@ -105,8 +99,7 @@ pub trait Destination {
         false
     }
 
-    /// Adds the key in quotes, escaped, with its colon and, if `wide`, a space, and returns `true`;
-    /// or adds nothing and returns `false`.
+    /// Adds the key in quotes, escaped, with its colon and, if `wide`, a space; or nothing.
     #[inline(always)]
     fn put_key(&mut self, key: &[u8], wide: bool) -> bool
         ensures done { IsTrue result → Adds (Just (quoted key.now ++ colon_text wide))
@@ -145,10 +138,9 @@ pub trait Destination {
     ghost lender_law: { (o : Self) (w : Self.T) → lender (with_writer o w) ≡ lender o };
 }
 
-/// Memory of its own. `put_byte` adds a byte if there is room; it stores less of the vector than
-/// `write` does. Each other `put_..` calls `push_short`, `push_digits` or `push_line`, so it adds
-/// only what is short, and only if there is room. All else is left to `writer`, by which the vector
-/// grows.
+/// Memory of its own. `put_byte` stores less of the vector than `write` does. Each other `put_..`
+/// adds only what is short (`push_short`, `push_digits`, `push_line`), and only if there is room.
+/// All else is left to `writer`, by which the vector grows.
 #[derive(Debug, Drop)]
 pub struct Memory {
     pub(super) bytes: Vec<u8>,

@@ -1,6 +1,4 @@
-//! Strings and their escapes (docs/RULES.md, "Printed values"). In clauses, `quoted s` is the
-//! printed string with its quotes, `is_plain` holds of a byte that needs no escape, and
-//! `escaped_byte b` is the escape of a byte that needs one.
+//! Strings and their escapes (docs/RULES.md, "Printed values").
 
 ghost use Rattle.std.specs.Prelude.{◌≡◌, ◌+◌, ◌≤◌, ◌++◌, false, length, drop, IsTrue, vec_capacity, vec_len};
 ghost use Rattle.jzon_base.specs.Private.PlainBytes.{is_plain};
@@ -20,8 +18,9 @@ const BY_ENDS_MAX_LEN: usize = 32;
 /// The room that such a string takes with its quotes, at most.
 pub(super) const BY_ENDS_ROOM: usize = BY_ENDS_MAX_LEN + 2;
 
-/// For an outlet's `put_string`: adds a string of at most 32 bytes in quotes if it needs no escape
-/// and there is room for 34 bytes, and returns whether it did. Otherwise nothing is added.
+/// For an outlet's `put_string`: adds a string of at most `BY_ENDS_MAX_LEN` bytes in quotes if it
+/// needs no escape and there is room for `BY_ENDS_ROOM` bytes, and returns whether it did.
+/// Otherwise nothing is added.
 // By `len` and `capacity`, `put_key` of memory knows that there is still room for a colon.
 #[inline(always)]
 pub fn push_short(bytes: &mut Vec<u8>, string: &[u8]) -> bool
@@ -46,10 +45,8 @@ pub fn push_short(bytes: &mut Vec<u8>, string: &[u8]) -> bool
     false
 }
 
-/// Puts a string of at most 32 bytes at an offset if it needs no escape. Otherwise nothing is put,
-/// and the result is false. The clause `PutsPlain` says this, and that the byte after the string
-/// stays, which is the closing quote of the caller. Each arm puts the first and the last `N` bytes,
-/// which may overlap (`put_ends`).
+/// Puts a string of at most `BY_ENDS_MAX_LEN` bytes at an offset if it needs no escape, and returns
+/// whether it did. Each arm puts the first and the last `N` bytes, which may overlap (`put_ends`).
 #[inline(always)]
 fn put_if_plain(bytes: &mut [u8], offset: usize, string: &[u8]) -> bool
     requires few { length string.now ≤ BY_ENDS_MAX_LEN }

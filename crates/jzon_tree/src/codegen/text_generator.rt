@@ -1,20 +1,7 @@
 //! The generators of the crate: they write a text in a layout, into memory of their own or to a
-//! borrowed writer.
-//!
-//! In clauses, `text_meaning P.out P.lender L.style g` is the state of the generator `g`: the bytes
-//! of its destination, its indents and faults, the style of its layout, and the reference that it
-//! writes through. `fresh out style lender` is such a state without an indent or a fault. `Emits`
-//! says what a hook adds, as in `generator`; `Added` and `Failed` are its parts for `Ok` and `Err`.
-//! `Counts` says that an error is counted as a fault, and nothing else changes. `Just bytes` allows
-//! these bytes alone, and `written_text` is a printed number. `IsAnswer style keys answer` says
-//! that the style allows this order of the keys. `⟦<T as Generator>⟧.meaning` is the ghost member
-//! `meaning` that `T` has as a `Generator`.
-//!
-//! A hook `try_..` stores an error in the slot (`error_slot`). If there is a hook of the name after
-//! `try_`, it calls this one with a slot of its own, and `take_result` returns the stored error.
-//! The contracts of the hooks are in `generator`; `order` has more clauses here. A `put_..` of the
-//! destination adds all and returns `true`, or adds nothing and returns `false`; then the bytes go
-//! to the destination's writer, by `send`.
+//! borrowed writer. A `put_..` of the destination adds all or nothing; if nothing, the bytes go to
+//! the destination's writer, by `send`. A hook `try_..` stores an error in the slot (`error_slot`);
+//! the hook of the name after `try_` calls it with a slot of its own, if there is one.
 
 ghost use Rattle.std.specs.Prelude.{◌≡◌, [], Ok, None, Some, IsSome, IsTrue, IsUtf8, IfErr, IfOk, MatchResult, OnErr, string_bytes};
 ghost use Rattle.std.specs.IoError.{error_kind};
@@ -167,10 +154,9 @@ impl<P: Destination, L: Layout> Generator for TextGenerator<P, L> {
         take_result(step, slot)
     }
 
-    /// What the layout's `order` returns: the positions of the entries as they are to be written,
-    /// or `None` for the order of insertion. If the layout always returns `None` (`keeps_order`),
-    /// nothing of the generator changes. An error of the layout is counted as a fault, and returned
-    /// as one of the kind `OutOfMemory`.
+    /// The layout's `order`. If it always returns `None` (`keeps_order`), nothing of the generator
+    /// changes. An error of the layout is counted as a fault, and returned as one of the kind
+    /// `OutOfMemory`.
     #[inline(always)]
     fn order(&mut self, object: &Object) -> io::Result<Option<Vec<usize>>>
         ensures answer { MatchResult result
@@ -254,13 +240,10 @@ impl<P: Destination, L: Layout> Generator for TextGenerator<P, L> {
     ghost style_law = { λ g. L.style_law g.layout };
 }
 
-/// Writes compact text into memory: no whitespace, and a colon alone after a key. The entries of an
-/// object are in the order of insertion.
+/// Writes compact text into memory (`Compact`).
 pub type DumpGenerator = TextGenerator<Memory, Compact>;
 
-/// Writes text with a line for each element and entry into memory: a newline and `spaces` spaces
-/// for each open indent, and a space after each colon. The entries of an object are in the order of
-/// insertion.
+/// Writes text with a line for each element and entry into memory (`Pretty`).
 pub type PrettyGenerator = TextGenerator<Memory, Pretty>;
 
 impl DumpGenerator {
@@ -274,7 +257,7 @@ impl DumpGenerator {
 }
 
 impl PrettyGenerator {
-    /// A generator that has written nothing. It allocates nothing.
+    /// As `DumpGenerator::new`.
     pub fn new(alloc: Global, spaces: u16) -> PrettyGenerator
         ensures { ⟦<PrettyGenerator as Generator>⟧.meaning result
             ≡ fresh (Some []) (pretty_style spaces) None }
@@ -295,8 +278,8 @@ impl<L: Layout> TextGenerator<Memory, L> {
 }
 
 impl<L: Layout + Drop> TextGenerator<Memory, L> {
-    /// A generator of this layout that has written nothing, with room for 1,024 bytes, so that a
-    /// small text needs one allocation. The error is a failed allocation.
+    /// A generator of this layout that has written nothing, with room for `FIRST_ROOM` bytes, so
+    /// that a small text needs one allocation.
     pub(crate) fn with_room(
         alloc: Global,
         layout: L,
@@ -309,7 +292,7 @@ impl<L: Layout + Drop> TextGenerator<Memory, L> {
     }
 
     /// The bytes that were written, as a string. It allocates nothing, and fails with
-    /// `FailedUtf8Parsing` exactly if they are not UTF-8. The clause `IsConsumed` says this.
+    /// `FailedUtf8Parsing` exactly if they are not UTF-8.
     pub fn consume(self) -> Result<String>
         ensures { IsConsumed (⟦<TextGenerator<Memory, L> as Generator>⟧.meaning self).out result }
     {
@@ -325,14 +308,12 @@ impl<L: Layout + Drop> TextGenerator<Memory, L> {
     }
 }
 
-/// Writes compact text to a writer: no whitespace, and a colon alone after a key. The entries of an
-/// object are in the order of insertion. Nothing is buffered: each bracket, string and number is a
-/// call of `Write::write`, or several.
+/// Writes compact text to a writer (`Compact`). Nothing is buffered: each bracket, string and
+/// number is a call of `Write::write`, or several.
 pub type WriterGenerator<'a, W> = TextGenerator<&'a mut W, Compact>;
 
-/// Writes text with a line for each element and entry to a writer: a newline and `spaces` spaces
-/// for each open indent, and a space after each colon. The entries of an object are in the order of
-/// insertion. Nothing is buffered, as with `WriterGenerator`.
+/// Writes text with a line for each element and entry to a writer (`Pretty`). Nothing is buffered,
+/// as with `WriterGenerator`.
 pub type PrettyWriterGenerator<'a, W> = TextGenerator<&'a mut W, Pretty>;
 
 impl<'a, W: Write> WriterGenerator<'a, W> {
@@ -346,7 +327,7 @@ impl<'a, W: Write> WriterGenerator<'a, W> {
 }
 
 impl<'a, W: Write> PrettyWriterGenerator<'a, W> {
-    /// A generator that appends to what was written to the writer.
+    /// As `WriterGenerator::new`.
     pub fn new(writer: &'a mut W, spaces: u16) -> PrettyWriterGenerator<'a, W>
         ensures { ⟦<PrettyWriterGenerator<'a, W> as Generator>⟧.meaning result
             ≡ fresh (W.contents writer.old) (pretty_style spaces) (Some writer.entry.ghost_name) }

@@ -67,7 +67,6 @@ impl<T: IntoJson> IntoJson for BTreeMap<String, T> {
     }
 }
 
-/// The object of its entries, in the map's order.
 impl<T: IntoJson> IntoJson for BTreeMap<&str, T> {
     ghost means = { λ pairs v. MapMeans (λ key. key.now) T.means pairs.entries v };
 
@@ -89,7 +88,6 @@ impl<T: IntoJson> IntoJson for HashMap<String, T> {
     }
 }
 
-/// The object of its entries, in any order.
 impl<T: IntoJson> IntoJson for HashMap<&str, T> {
     ghost means = { λ pairs v. AnyOrderMeans (λ key. key.now) T.means pairs.entries v };
 

@@ -22,9 +22,8 @@ use jzon_base::error::{Error, Result};
 use jzon_base::pairs::Pairs;
 use std::alloc::Global;
 
-/// A value that may be an object or an array of nodes, as a `JsonValue` is of values. `get_in`,
-/// `at_in` and `at_index_in` return mutable references to its nodes; `final` says that no
-/// implementation overrides them.
+/// A value that may be an object or an array of nodes, as a `JsonValue` is of values. `final` says
+/// that no implementation overrides a method.
 pub trait Tree {
     type Node;
 
@@ -55,8 +54,8 @@ pub trait Tree {
         ensures value { MatchOption result (pairs self.old ≡ [])
             (λ lent. (lent.now ≡ pairs self.old) × (object (pairs self.old) ≡ self.old)) };
 
-    /// Makes the value an object that has the key, and returns its position: what isn't an object
-    /// becomes an empty one, and then a missing key is put last, with null.
+    /// Makes the value an object that has the key, with null if it was missing, and returns the
+    /// key's position.
     fn make_key(&mut self, alloc: Global, key: &str) -> Result<usize>
         ensures position { IfOk result (λ i. position (λ k. bytes_eq k key.now)
             (keys_of (with_default key.now null (pairs self.old))) ≡ Some i) }
@@ -65,9 +64,7 @@ pub trait Tree {
         ensures present { OnErr result (find key.now (pairs self.old) ≡ None) }
         ensures memory { IsOkUnless result Error.OutOfMemory };
 
-    /// Makes the value an array that has an element for the index: past its end an array gains one
-    /// null, whatever the index, and any other value becomes `[null]` for the index 0, else
-    /// `[null,null]`.
+    /// Makes the value an array that has an element for the index (`with_place`).
     fn make_place(&mut self, alloc: Global, index: usize) -> Result<()>
         ensures ok { OnOk result (items self.new ≡ Some (with_place null (items self.old) index)) }
         ensures err { OnErr result (meaning self.new ≡ meaning self.old) }

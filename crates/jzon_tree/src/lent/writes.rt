@@ -1,7 +1,6 @@
 //! Writes into a value, by calls whose contracts say what the value is afterwards; a caller's proof
 //! doesn't learn this of a write through a reference. A function `.._in` does the same for any type
-//! of the trait `Tree`, because the checker proves a write through a reference only if its type
-//! isn't that of the receiver.
+//! of the trait `Tree`, for the reason given in `lent`.
 #![tactic(auto, using(crate::proofs::Values::WriteViews::written))]
 
 ghost use Rattle.std.specs.Prelude.{◌≡◌, ◌≤◌, length, slice_set, IfSome, OnOk, OnErr, IsOkUnless, MatchOption, is_some, None, Some, true, false};
@@ -39,11 +38,9 @@ pub fn write_at(value: &mut JsonValue, alloc: Global, key: &str, item: JsonValue
     write_at_in(value, alloc, key, item)
 }
 
-/// Writes the element of an array at an index, as through `at_index_mut`. Past the end, `item` is
-/// appended, whatever the index. A value that isn't an array first becomes `[null]` for index 0 and
-/// `[null,null]` for any other, and the last element is written. Fails with `OutOfMemory` only, and
-/// then the value is equal to the one before; an index that is in the range of an array needs no
-/// allocation.
+/// Writes the element of an array at an index, as through `at_index_mut`; past the end, `item` is
+/// appended. Fails with `OutOfMemory` only, and then the value is equal to the one before; an index
+/// that is in the range of an array needs no allocation.
 pub fn write_at_index(
     value: &mut JsonValue,
     alloc: Global,

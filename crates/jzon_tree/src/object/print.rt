@@ -17,9 +17,7 @@ use jzon_base::error::{Error, Result};
 use std::alloc::Global;
 
 impl Object {
-    /// The compact text of the object, with no whitespace outside of its strings. Fails with
-    /// `OutOfMemory`, and with `ExceededDepthLimit` if non-empty containers nest 2^64 deep or
-    /// deeper.
+    /// The compact text of the object. Fails as `JsonValue::dump`.
     pub fn dump(&self, alloc: Global) -> Result<String>
         ensures text { IfOk result (λ text. string_bytes text ≡ compact (view_object self.now)) }
         ensures writing { IfOk result (λ text. Writes compact_style 0 (view_object self.now)
@@ -33,8 +31,7 @@ impl Object {
         self.lay_out(alloc, Compact)
     }
 
-    /// The text of the object with a line for each entry and element, and `spaces` spaces before it
-    /// for each container around it, as `JsonValue::pretty` returns it. Fails as `dump`.
+    /// The text of the object as `JsonValue::pretty` returns it. Fails as `dump`.
     pub fn pretty(&self, alloc: Global, spaces: u16) -> Result<String>
         ensures text { IfOk result (λ text. string_bytes text
             ≡ pretty (view_object self.now) spaces 0) }
@@ -49,8 +46,7 @@ impl Object {
         self.lay_out(alloc, Pretty(spaces))
     }
 
-    /// The text of the object in a layout. Fails as `dump` does, and with `OutOfMemory` if the
-    /// layout's `order` fails.
+    /// The text of the object in a layout. Fails as `JsonValue::lay_out`.
     fn lay_out<L: Layout + Drop>(&self, alloc: Global, layout: L) -> Result<String>
         ensures writing { IfOk result (λ text. Writes (L.style layout) 0 (view_object self.now)
             (string_bytes text)) }
@@ -65,8 +61,7 @@ impl Object {
         {
             return Ok(generator.into_text());
         }
-        // `&mut None` is the slot for the error of a hook, which isn't needed: only the depth or an
-        // allocation can have failed, and the depth of the object says which.
+        // As in `JsonValue::lay_out`.
         Err(inspect_object(self).printing_error())
     }
 }

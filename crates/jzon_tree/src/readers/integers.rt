@@ -24,74 +24,72 @@ impl JsonValue {
         u64::try_from(self.as_number()?).ok()
     }
 
-    /// The number as a `u32`, as `as_u64` reads it, if it fits.
+    /// As `as_u64`, if it fits in a `u32`.
     pub fn as_u32(&self) -> Option<u32>
         ensures { SomeWhere (unsigned_in (view self.now)) (λ n. n < 2 ^ 32) result }
     {
         u32::try_from(self.as_number()?).ok()
     }
 
-    /// The number as a `u16`, as `as_u64` reads it, if it fits.
+    /// As `as_u64`, if it fits in a `u16`.
     pub fn as_u16(&self) -> Option<u16>
         ensures { SomeWhere (unsigned_in (view self.now)) (λ n. n < 2 ^ 16) result }
     {
         u16::try_from(self.as_number()?).ok()
     }
 
-    /// The number as a `u8`, as `as_u64` reads it, if it fits.
+    /// As `as_u64`, if it fits in a `u8`.
     pub fn as_u8(&self) -> Option<u8>
         ensures { SomeWhere (unsigned_in (view self.now)) (λ n. n < 2 ^ 8) result }
     {
         u8::try_from(self.as_number()?).ok()
     }
 
-    /// The number as a `usize`, as `as_u64` reads it, if it fits.
+    /// As `as_u64`, as a `usize`.
     pub fn as_usize(&self) -> Option<usize>
         ensures { SomeWhere (unsigned_in (view self.now)) (λ n. n < 2 ^ 64) result }
     {
         usize::try_from(self.as_number()?).ok()
     }
 
-    /// The number as an `i64`, if its exponent is 0 and it fits. `None` also for most integers that
-    /// are written with a point or an exponent, as `1.0`, `1e2` and `100e-2`:
-    /// `as_exact_fixed_point_i64(0)` returns these.
+    /// The number as an `i64`, if its exponent is 0 and it fits. As with `as_u64`, there is
+    /// `as_exact_fixed_point_i64(0)` for integers with a point or an exponent.
     pub fn as_i64(&self) -> Option<i64>
         ensures { SomeWhere (integer_in (view self.now)) (FitsSigned w64) result }
     {
         i64::try_from(self.as_number()?).ok()
     }
 
-    /// The number as an `i32`, as `as_i64` reads it, if it fits.
+    /// As `as_i64`, if it fits in an `i32`.
     pub fn as_i32(&self) -> Option<i32>
         ensures { SomeWhere (integer_in (view self.now)) (FitsSigned w32) result }
     {
         i32::try_from(self.as_number()?).ok()
     }
 
-    /// The number as an `i16`, as `as_i64` reads it, if it fits.
+    /// As `as_i64`, if it fits in an `i16`.
     pub fn as_i16(&self) -> Option<i16>
         ensures { SomeWhere (integer_in (view self.now)) (FitsSigned w16) result }
     {
         i16::try_from(self.as_number()?).ok()
     }
 
-    /// The number as an `i8`, as `as_i64` reads it, if it fits.
+    /// As `as_i64`, if it fits in an `i8`.
     pub fn as_i8(&self) -> Option<i8>
         ensures { SomeWhere (integer_in (view self.now)) (FitsSigned w8) result }
     {
         i8::try_from(self.as_number()?).ok()
     }
 
-    /// The number as an `isize`, as `as_i64` reads it, if it fits.
+    /// As `as_i64`, as an `isize`.
     pub fn as_isize(&self) -> Option<isize>
         ensures { SomeWhere (integer_in (view self.now)) (FitsSigned w64) result }
     {
         isize::try_from(self.as_number()?).ok()
     }
 
-    /// `mantissa * 10 ^ (exponent + point)`, truncated to an integer. `point` is a count of decimal
-    /// places: with 2, `5.99` and `5.999` are 599. `None` if the sign is negative, even that of
-    /// `-0`, if the result doesn't fit, and for NaN.
+    /// As `Number::as_fixed_point_u64`: with `point` 2, `5.99` and `5.999` are 599. `None` for any
+    /// other value.
     pub fn as_fixed_point_u64(&self, point: u16) -> Option<u64>
         ensures { SomeWhere (unsigned_fixed_point_in (view self.now) point)
             (λ n. n < 2 ^ 64) result }
@@ -99,9 +97,8 @@ impl JsonValue {
         self.as_number()?.as_fixed_point_u64(point)
     }
 
-    /// `mantissa * 10 ^ (exponent + point)`, truncated to an integer, with its sign. `point` is a
-    /// count of decimal places: with 2, `-5.99` and `-5.999` are -599. `None` if the result doesn't
-    /// fit, and for NaN.
+    /// As `Number::as_fixed_point_i64`: with `point` 2, `-5.99` and `-5.999` are -599. `None` for
+    /// any other value.
     pub fn as_fixed_point_i64(&self, point: u16) -> Option<i64>
         ensures { SomeWhere (fixed_point_in (view self.now) point) (FitsSigned w64) result }
     {

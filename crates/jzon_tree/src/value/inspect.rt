@@ -98,7 +98,6 @@ pub(crate) fn inspect(value: &JsonValue) -> Inspection
     }
 }
 
-/// Inspects the entries of the object and all parts of their values.
 #[cycle(inspect)]
 pub(crate) fn inspect_object(object: &Object) -> Inspection
     ensures { IsInspected (view_object object.now) result.has_nan result.nest }
@@ -113,7 +112,6 @@ pub(crate) fn inspect_object(object: &Object) -> Inspection
     found
 }
 
-/// Inspects the elements and all their parts.
 #[cycle(inspect)]
 fn inspect_items(items: &[JsonValue]) -> Inspection
     ensures { IsInspected (array (view_values items.now)) result.has_nan result.nest }

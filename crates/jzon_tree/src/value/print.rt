@@ -1,17 +1,6 @@
 //! The texts of values (docs/RULES.md, "Layouts"). An indent is open for each non-empty container
-//! that is being written.
-//!
-//! In clauses, `view` is the value as plain data, and `compact v` and `pretty v spaces 0` are texts
-//! of such data. `Writes style 0 v` holds of each text of `v` that the style allows. The 0 is the
-//! number of containers around `v`. The compact style and each pretty style allow one text of a
-//! value. `nest v` is the depth of `v`: how many non-empty containers nest in it. `IsValue v` says
-//! what the types of its parts promise: numbers in range, strings of UTF-8, distinct keys. The laws
-//! on reading back need this, so calls that print ensure it.
-//!
-//! `W.contents writer` are the bytes that the writer holds, if they are known. `Appends before
-//! after bytes` says that these bytes were added, and `AppendsBeginning` that a prefix of them was.
-//! `Sends P before after result` says that a writer receives bytes for which `P` holds, or after an
-//! error a prefix of such bytes.
+//! that is being written. Calls that print ensure `IsValue` too, because the laws on reading back
+//! need it.
 
 ghost use Rattle.std.specs.Prelude.{◌≡◌, ◌<◌, ◌≤◌, ◌^◌, OnOk, OnErr, IfOk, IsOkUnless, string_bytes};
 ghost use Rattle.std.specs.Io.KnownBytes.{Appends};

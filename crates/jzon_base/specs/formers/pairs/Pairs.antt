@@ -146,6 +146,7 @@ module _ (R S : RattleType) (h : R.Denot → S.Denot) where
       (tt, ((over_box R.Denot S.Denot h, tt), tt)) (over_boxes R.Denot S.Denot h) variant refl
       (tt, ((laid _ _ _ (box_places a), tt), tt))
 
+  -- `Pairs` of alike values are alike
   pub the_places : Alike R S h → Alike (C.the_row R) (C.the_row S) ((the_former this).map R.Denot S.Denot h)
   the_places a = view_places fields (the_former this) view
       (λ X Y k u. natural X Y k u u.entries) (λ X u. keeps X u u.entries)
@@ -156,5 +157,6 @@ module _ (R S : RattleType) (h : R.Denot → S.Denot) where
       (λ d i. (d.alloc, (mapped R.Denot S.Denot h d.entries i, tt))) refl
       ((refl, (λ n. refl, λ n. refl)), (laid _ _ _ (boxes_places a), tt)))
 
+  -- `Pairs` of values that are coded anew are coded anew
   pub the_codes_placed : Recodes R S h → Recodes (C.the_row R) (C.the_row S) ((the_former this).map R.Denot S.Denot h)
   the_codes_placed e c = entries.the_codes_placed R S h e c

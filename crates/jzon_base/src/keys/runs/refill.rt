@@ -1,8 +1,5 @@
 //! The index after `Keys::retain`: that of the keys that are left, in the room of the old one. The
-//! runs are filled one after the other, each up to its old length. In clauses, `hashed_from n keys`
-//! are the index entries of keys with positions from `n` on, and `entry_cmp keys` is their order,
-//! by hashes and then texts. `IsIndexOf hashes keys runs` says that the runs have one entry for
-//! each key, with its hash in the list, and are sorted.
+//! runs are filled one after the other, each up to its old length.
 ghost use Rattle.std.specs.Prelude.{◌≡◌, ◌≤◌, ◌+◌, ◌-◌, drop, length, map, min, take};
 ghost use Rattle.std.specs.List.Sorted.{IsPermutation, IsSorted};
 ghost use Rattle.jzon_base.specs.Private.Handed.{entries_of, IsIndexOf};

@@ -87,6 +87,7 @@ zip-held X (k ∷ ks) (v ∷ vs) e = λ i. (
 )
 
 module _ (R R' : RattleType) (h : R.Denot → R'.Denot) where
+  -- entries of alike values are alike
   pub the_places : Alike R R' h → Alike (C.the_row R) (C.the_row R') ((the_former this).map R.Denot R'.Denot h)
   the_places a = view_places_where fields (the_former this) view
       (λ X Y k u. zip-map k u.keys u.values.items)
@@ -99,6 +100,7 @@ module _ (R R' : RattleType) (h : R.Denot → R'.Denot) where
       (struct_places (I.the_type R) (I.the_type R') (λ n. n, (vec.mapped h, tt)) _ (λ d. refl) refl
       ((refl, (λ n. refl, λ n. refl)), (laid _ _ _ (vec.the_places heap.the_row ghosts R R' h a), tt)))
 
+  -- entries of values that are coded anew are coded anew
   pub the_codes_placed : Recodes R R' h → Recodes (C.the_row R) (C.the_row R')
       ((the_former this).map R.Denot R'.Denot h)
   the_codes_placed e c = sym (code_map (coded× (coded_list coded_ℕ) R.coded).code
