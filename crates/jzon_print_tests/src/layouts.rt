@@ -8,7 +8,6 @@ ghost use Rattle.jzon.specs.StyleLaws.{IsStyle-any};
 ghost use Rattle.jzon.specs.Writing.{any_style, IsOrder};
 
 use crate::common::{Tested, Tester, expect, expect_bytes, expect_eq, is_text};
-use crate::outlets::{Buffer, Plain};
 use jzon::codegen::{Generator, Layout, TextGenerator, write_json, write_object};
 use jzon::object::Object;
 use jzon::{Error, JsonValue, parse};
@@ -113,20 +112,13 @@ enum Call {
     WriteLayout,
     InMemory,
     ToWriter,
-    WriteOutlet,
-    /// `write_outlet` to a buffer with room for this number of bytes.
-    ToBuffer(usize),
 }
 
-/// No text of a test is as long as the last buffer.
 const CALLS: &[Call] = &[
     Call::LayOut,
     Call::WriteLayout,
     Call::InMemory,
     Call::ToWriter,
-    Call::WriteOutlet,
-    Call::ToBuffer(0),
-    Call::ToBuffer(4_000_000),
 ];
 
 impl Call {
@@ -152,12 +144,6 @@ impl Call {
                 outcome
             }
             Call::ToWriter => write_json(&mut TextGenerator::to_writer(&mut bytes, layout), value),
-            Call::WriteOutlet => value.write_outlet(&mut Plain(&mut bytes), layout),
-            Call::ToBuffer(room) => {
-                let mut buffer = Buffer::new(Vec::with_capacity(alloc, room)?);
-                let outcome = value.write_outlet(&mut buffer, layout);
-                return Ok((buffer.bytes, outcome));
-            }
         };
         Ok((bytes, outcome))
     }
@@ -286,7 +272,7 @@ fn sorts_a_large_object(rt: HostRuntime) -> Tested {
     expect_laid_out(&rt, alloc, &value, layout, text.as_str())
 }
 
-/// An order has more positions than 16 bits can count. An outlet is asked for each of the keys.
+/// An order has more positions than 16 bits can count.
 #[test]
 fn writes_many_entries_in_an_order(rt: HostRuntime) -> Tested {
     let mut keys = keys_by_hash(rt.alloc(), 70_000)?;
@@ -294,7 +280,15 @@ fn writes_many_entries_in_an_order(rt: HostRuntime) -> Tested {
     keys.reverse();
     let text = object_text(rt.alloc(), keys.as_slice())?;
     expect_reversed(&rt, &object, text.as_str())?;
-    expect_outlet_asked(&rt, &JsonValue::Object(object), text.as_str())
+    let asked = Cell::new(0);
+    let layout = in_order(rt.alloc(), Order::Reversed, &asked);
+    expect_laid_out(
+        &rt,
+        rt.alloc(),
+        &JsonValue::Object(object),
+        layout,
+        text.as_str(),
+    )
 }
 
 /// `write_object` in the reversed order prints this text.
@@ -305,17 +299,6 @@ fn expect_reversed(rt: &impl Tester, object: &Object, text: &str) -> Tested {
     write_object(&mut generator, object)?;
     expect(rt, "write_object", is_text(generator.consume(), text));
     expect_eq(rt, "the calls of order", asked.get(), 1);
-    Ok(())
-}
-
-/// Each call prints this text in the reversed order, and an outlet is asked for each key.
-fn expect_outlet_asked(rt: &impl Tester, value: &JsonValue, text: &str) -> Tested {
-    let asked = Cell::new(0);
-    let layout = in_order(rt.alloc(), Order::Reversed, &asked);
-    expect_laid_out(rt, rt.alloc(), value, layout, text)?;
-    let mut buffer = Buffer::new(Vec::new(rt.alloc()));
-    value.write_outlet(&mut buffer, layout)?;
-    expect_eq(rt, "the keys", buffer.asked, 70_000);
     Ok(())
 }
 
@@ -391,7 +374,7 @@ fn new_layout(alloc: Global) -> Result<Owning, AllocError> {
     Ok(Owning(String::from_str(alloc, "words of a layout")?))
 }
 
-/// Each call that takes a layout, to memory, to a writer that fails, and to an outlet.
+/// Each call that takes a layout, to memory and to a writer that fails.
 fn lay_out(rt: &impl Tester, value: &JsonValue) -> Tested {
     let alloc = rt.alloc();
     let text = value.lay_out(alloc, new_layout(alloc)?);
@@ -404,7 +387,7 @@ fn lay_out(rt: &impl Tester, value: &JsonValue) -> Tested {
 
 fn lay_out_whole(rt: &impl Tester, value: &JsonValue) -> Tested {
     let mut bytes: Vec<u8> = Vec::new(rt.alloc());
-    value.write_outlet(&mut Plain(&mut bytes), new_layout(rt.alloc())?)?;
+    value.write_layout(&mut bytes, new_layout(rt.alloc())?)?;
     expect_bytes(rt, &bytes, "[\n 1\n]");
     let mut generator = TextGenerator::in_memory(rt.alloc(), new_layout(rt.alloc())?);
     write_json(&mut generator, value)?;

@@ -2,7 +2,7 @@
 //!
 //! - `printing`: what the calls print of one value, and what generators consume
 //! - `display`: what `{}` shows
-//! - `layouts`, `generators`, `hooks`, `outlets`: a user's own ones and the library's
+//! - `layouts`, `generators`, `hooks`: a user's own ones and the library's
 //! - `writers`: writers that fail
 //! - `memory`: what printing allocates, also where that fails
 //! - `whole`, `large`: all calls that print, copy or hold a value, on each kind of value, and on
@@ -23,8 +23,6 @@ mod large;
 mod layouts;
 #[cfg(test)]
 mod memory;
-#[cfg(test)]
-mod outlets;
 #[cfg(test)]
 mod printing;
 #[cfg(test)]

@@ -2,8 +2,7 @@
 
 use crate::common::{Tested, Tester, expect, expect_eq, expect_trouble};
 use crate::memory::{Writing, write};
-use crate::outlets::Plain;
-use jzon::codegen::{Compact, Pretty, WriterGenerator, write_object};
+use jzon::codegen::{Compact, WriterGenerator, write_object};
 use jzon::{JsonValue, Result, parse};
 use jzon_test_support::{
     DOCUMENT, DUMP, FAILURES, NO_FAILING_CALL, PRETTY, Refusals, SlowWriter, Trouble, joined,
@@ -19,8 +18,6 @@ enum How {
     Pretty,
     Layout,
     PrettyLayout,
-    Outlet,
-    PrettyOutlet,
     Generator,
     PrettyGenerator,
     Object,
@@ -31,8 +28,6 @@ const HOWS: &[How] = &[
     How::Pretty,
     How::Layout,
     How::PrettyLayout,
-    How::Outlet,
-    How::PrettyOutlet,
     How::Generator,
     How::PrettyGenerator,
     How::Object,
@@ -87,9 +82,7 @@ fn wide(alloc: Global) -> Result<Sample> {
 impl How {
     fn text(self, sample: &Sample) -> &str {
         match self {
-            How::Pretty | How::PrettyLayout | How::PrettyOutlet | How::PrettyGenerator => {
-                sample.pretty.as_str()
-            }
+            How::Pretty | How::PrettyLayout | How::PrettyGenerator => { sample.pretty.as_str() }
             _ => sample.compact.as_str(),
         }
     }
@@ -102,8 +95,6 @@ impl How {
             How::Pretty => write(Writing::WritePretty, value, writer, spaces),
             How::Layout => value.write_layout(writer, Compact),
             How::PrettyLayout => write(Writing::WriteLayout, value, writer, spaces),
-            How::Outlet => value.write_outlet(&mut Plain(writer), Compact),
-            How::PrettyOutlet => value.write_outlet(&mut Plain(writer), Pretty(spaces)),
             How::Generator => write(Writing::WriterGenerator, value, writer, spaces),
             How::PrettyGenerator => write(Writing::PrettyWriterGenerator, value, writer, spaces),
             How::Object => match value.as_object() {

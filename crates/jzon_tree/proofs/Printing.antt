@@ -1,6 +1,7 @@
 -- What is written of a value, piece by piece.
 pub mod Emissions
 pub mod ByteEnds
+pub mod HeldBytes
 pub mod Escapes
 pub mod Exits
 pub mod Members

@@ -9,7 +9,7 @@ use Rattle.jzon_base.specs.declared.error.Error.{Error}
 use Rattle.jzon_base.specs.declared.error.Error.TheVariants.{FailedUtf8Parsing}
 use Rattle.jzon_tree.specs.Generator.{Emitted}
 use Rattle.jzon_tree.specs.Writing.{Style}
-use Rattle.jzon_tree.specs.declared.codegen.outlet.Memory.{Memory}
+use Rattle.jzon_tree.specs.declared.codegen.destination.Memory.{Memory}
 use Rattle.jzon_tree.specs.declared.codegen.text_generator.TextGenerator.{TextGenerator}
 
 -- these bytes, no open indent and no fault
@@ -20,16 +20,16 @@ fresh out style lender = record { out = out; dent = 0; faults = 0; style = style
 abbrev pub text_meaning : {O L T : Type 0} → (O → Option (List ℕ)) → (O → Option GName) → (L → Style)
     → TextGenerator O L T → Emitted
 text_meaning out lender style g = record {
-  out = out g.place;
+  out = out g.destination;
   dent = g.dent;
   faults = g.faults;
   style = style g.layout;
-  lender = lender g.place;
+  lender = lender g.destination;
 }
 
 -- the generator with this writer in its destination
 abbrev pub with_writer_in : {O L T : Type 0} → (O → T → O) → TextGenerator O L T → T → TextGenerator O L T
-with_writer_in with_writer g w = record g { place = with_writer g.place w }
+with_writer_in with_writer g w = record g { destination = with_writer g.destination w }
 
 -- memory's bytes
 abbrev pub bytes_in : Memory → Option (List ℕ)

@@ -1,4 +1,3 @@
 pub mod Added
 pub mod CountsOfSpaces
-pub mod Held
 pub mod RejectedInputs

@@ -1,3 +1,2 @@
-pub mod Buffered
 pub mod Run
 pub mod Drive

@@ -3,16 +3,12 @@
 ghost use Rattle.std.specs.Prelude.{◌≡◌, ℕ, List, [], IfOk, IfErr, OnOk, map, option_map, string_bytes, vec_len};
 ghost use Rattle.std.specs.Io.KnownBytes.{Consumes, Keeps};
 ghost use Rattle.jzon.specs.View.{view};
-ghost use Rattle.jzonfmt.specs.Buffered.{held, known_len, left};
 ghost use Rattle.jzonfmt.specs.Run.{Answers, IsReadFault, ReadsInput, Runs, WritesWhole, line, text};
 ghost use Rattle.jzonfmt.specs.Drive.{Drives, asked_layout, asked_options, asked_spaces, asking, fault_status};
 
-use crate::buffered::{Buffered, Start};
-use jzon::codegen::{Compact, Outlet, Pretty};
 use jzon::{Error, JsonValue, Reading, util};
 use std::alloc::{AllocError, Global};
 use std::io::{Read, Write};
-use std::marker::Brand;
 use std::{fmt, io, mem};
 
 /// The layouts that the arguments can choose.
@@ -104,9 +100,6 @@ impl From<Error> for RunFault {
 /// How many bytes are read at once.
 const CHUNK_SIZE: usize = 65536;
 
-/// How many bytes of the printed text are collected before they are written.
-const BUFFER_SIZE: usize = 65536;
-
 /// Reads one text by `reading`, and writes its value in `layout` and a newline. The reader is read
 /// to its end before anything is written, and its first error ends the run.
 pub fn run<R: Read, W: Write>(
@@ -166,58 +159,30 @@ fn print_input<W: Write>(
         return Err(RunFault::NotUtf8);
     };
     let value = jzon::parse_as(alloc, source, reading)?;
-    let memory = Vec::with_capacity(alloc, BUFFER_SIZE)?;
-    // `Brand` is nothing at run time. The proof picks its `Start`: how many bytes the writer has
-    // now.
-    let answer = write_line::<W, Brand>(writer, memory, &value, layout);
+    let answer = write_line(writer, &value, layout);
     // The program ends once the text is written, so dropping the value would cost time for nothing.
     mem::forget(value);
     answer.map_err(RunFault::Write)
 }
 
-/// Writes the text of the value in the layout and a newline, buffered in `memory`. `S.start`, which
-/// only the proof has, is how many bytes the writer has (`known_len`).
-fn write_line<W: Write, S: Start>(
-    writer: &mut W,
-    memory: Vec<u8>,
-    value: &JsonValue,
-    layout: Layout,
-) -> io::Result<()>
-    requires empty { memory.items ≡ [] }
-    requires start { S.start ≡ known_len (W.contents writer.old) }
+/// Writes the text of the value in the layout and a newline. After an error a prefix of them is
+/// written.
+fn write_line<W: Write>(writer: &mut W, value: &JsonValue, layout: Layout) -> io::Result<()>
     ensures { WritesWhole (line layout (view value.now)) result (W.contents writer.old)
         (W.contents writer.new) }
 {
-    let mut buffered: Buffered<'_, W, S> = Buffered::new(writer, memory);
-    let answer = write_held(&mut buffered, value, layout);
-    let inner = buffered.into_writer();
-    // No effect at run time. From this use the proof learns what the writer holds.
-    let _ = &*inner;
-    answer
+    write_text(writer, value, layout)?;
+    util::write_bytes(writer, b"\n")
 }
 
-/// Writes the text and a newline after what is held, and writes out the buffer.
-fn write_held<W: Write, S: Start>(
-    buffered: &mut Buffered<'_, W, S>,
-    value: &JsonValue,
-    layout: Layout,
-) -> io::Result<()>
-    ensures bytes { WritesWhole (line layout (view value.now)) result
-        (held W.contents S.start buffered.old) (held W.contents S.start buffered.new) }
-    ensures all { OnOk result (left buffered.new ≡ []) }
-{
-    write_text(buffered, value, layout)?;
-    util::write_bytes(buffered, b"\n")?;
-    buffered.write_out()
-}
-
-fn write_text<W: Outlet>(writer: &mut W, value: &JsonValue, layout: Layout) -> io::Result<()>
-    ensures { WritesWhole (text layout (view value.now)) result (W.Write.contents writer.old)
-        (W.Write.contents writer.new) }
+/// Writes the text of the value in the layout.
+fn write_text<W: Write>(writer: &mut W, value: &JsonValue, layout: Layout) -> io::Result<()>
+    ensures { WritesWhole (text layout (view value.now)) result (W.contents writer.old)
+        (W.contents writer.new) }
 {
     match layout {
-        Layout::Compact => value.write_outlet(writer, Compact),
-        Layout::Pretty(spaces) => value.write_outlet(writer, Pretty(spaces)),
+        Layout::Compact => value.write(writer),
+        Layout::Pretty(spaces) => value.write_pretty(writer, spaces),
     }
 }
 

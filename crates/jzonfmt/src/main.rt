@@ -1,7 +1,6 @@
 //! Reads one JSON text from standard input and prints it on standard output.
 #![tactic(auto)]
 
-mod buffered;
 mod engine;
 #[cfg(test)]
 mod refusals;
@@ -9,22 +8,32 @@ mod refusals;
 mod tests;
 
 use engine::RunFault;
+use std::env;
+use std::io::{self, BufWriter};
 use std::process::ExitCode;
-use std::{env, io};
+
+/// How many bytes of the printed text are collected before standard output gets them.
+const BUFFER_SIZE: usize = 65536;
 
 fn main(rt: HostRuntime) -> ExitCode {
-    let mut faults = rt.stderr();
     let status = match words(&rt) {
-        Ok(words) => engine::drive(
-            rt.alloc(),
-            words.as_slice(),
-            &mut rt.stdin(),
-            &mut rt.stdout(),
-            &mut faults,
-        ),
-        Err(error) => engine::report(&mut faults, &RunFault::Read(error)),
+        Ok(words) => drive_buffered(&rt, words.as_slice()),
+        Err(error) => engine::report(&mut rt.stderr(), &RunFault::Read(error)),
     };
     ExitCode::from(status)
+}
+
+/// Drives the program with the standard streams, and returns the exit status.
+fn drive_buffered(rt: &HostRuntime, words: &[String]) -> u8 {
+    let mut faults = rt.stderr();
+    let Ok(mut writer) = BufWriter::with_capacity(rt.alloc(), BUFFER_SIZE, rt.stdout()) else {
+        return engine::report(&mut faults, &RunFault::Memory);
+    };
+    let status = engine::drive(rt.alloc(), words, &mut rt.stdin(), &mut writer, &mut faults);
+    // `drive` has flushed, or a write has failed. Then the drop of the `BufWriter` would write what
+    // is left once more, so its bytes are let go without it.
+    let _ = writer.into_parts();
+    status
 }
 
 /// The arguments after the program's name.

@@ -28,7 +28,7 @@ fn run_under_refusals(rt: HostRuntime) -> Result<(), Fail> {
         expect(&rt, "the error", matches!(result, Err(RunFault::Memory)));
         expect(&rt, "no output", writer.is_empty());
     }
-    refusals.report(&rt, "run_under_refusals", 9)?;
+    refusals.report(&rt, "run_under_refusals", 8)?;
     Ok(())
 }
 
@@ -37,7 +37,7 @@ fn run_under_refusals(rt: HostRuntime) -> Result<(), Fail> {
 type Driven = (&'static [u8], u8, &'static [u8], &'static [u8], usize);
 
 const DRIVEN: &[Driven] = &[
-    (b"-12.50e3", 0, b"-12500\n", b"", 3),
+    (b"-12.50e3", 0, b"-12500\n", b"", 2),
     (
         b"[\"a text of more than thirty bytes\",{\"a\":[1,]}]",
         1,
@@ -93,7 +93,7 @@ fn drive_under_refusals(rt: HostRuntime) -> Result<(), Fail> {
     Ok(())
 }
 
-/// More than the input, the chunk and the buffer of a run take.
+/// More than the input and the chunk of a run take.
 const MOST_OF_FAILED: usize = 1 << 20;
 
 /// A run on a writer that fails at this call, and drops all.

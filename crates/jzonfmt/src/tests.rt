@@ -483,23 +483,24 @@ fn a_writer_fails_at_each_call(rt: HostRuntime) -> Result<(), Fail> {
     Ok(())
 }
 
-/// How a text begins, what is repeated how often, and how it ends. With 8191 elements the newline is
-/// the byte 65536, and a string of 65534 bytes fills the buffer, so that only the newline has no
-/// room. Strings of more bytes than the buffer holds are at its start and after other bytes.
+/// How a text begins, what is repeated how often, and how it ends. `write` collects 1,024 bytes: the
+/// first three texts have one fewer, as many, and one more, and a string of 1,022 bytes fills the
+/// buffer with its quotes. Longer strings are at its start and after other bytes.
 const ROUND_A_BUFFER: &[(&str, &str, usize, &str)] = &[
-    ("[", "1234567,", 8190, "76543]"),
-    ("[", "1234567,", 8191, "76543]"),
-    ("[", "1234567,", 8192, "76543]"),
-    ("[", "1234567,", 20000, "76543]"),
-    ("\"", "p", 65534, "\""),
-    ("\"", "p", 65536, "\""),
-    ("\"", "p", 200000, "\""),
-    ("[1,\"\\n", "p", 65534, "\",2]"),
-    ("{\"a\":[\"", "p", 200000, "\\u0001\",true]}"),
+    ("[", "1234567,", 127, "76543]"),
+    ("[", "1234567,", 127, "765432]"),
+    ("[", "1234567,", 127, "7654321]"),
+    ("[", "1234567,", 2500, "76543]"),
+    ("\"", "p", 1021, "\""),
+    ("\"", "p", 1022, "\""),
+    ("\"", "p", 1023, "\""),
+    ("\"", "p", 5000, "\""),
+    ("[1,\"\\n", "p", 1022, "\",2]"),
+    ("{\"a\":[\"", "p", 5000, "\\u0001\",true]}"),
 ];
 
 /// The last byte of a full buffer, bytes of the next, and the newline, whichever text it follows.
-const LATE_CALLS: &[usize] = &[1, 65536, 65537, 65538, usize::MAX];
+const LATE_CALLS: &[usize] = &[1, 1024, 1025, 1026, usize::MAX];
 
 /// The writer fails at each of these calls, or at the last one.
 fn expect_late_errors(rt: &impl Abort, alloc: Global, text: &[u8]) -> Result<(), Fail> {
@@ -531,7 +532,7 @@ fn prints_more_lines_than_the_buffer_holds(rt: HostRuntime) -> Result<(), Fail> 
     let alloc = rt.alloc();
     for spaces in 0..16 {
         let first = joined(alloc, &[("[\n  \"", 1), ("p", spaces), ("\"", 1)])?;
-        let parts = [(first.as_str(), 1), (",\n  12345678901", 10000), ("\n]", 1)];
+        let parts = [(first.as_str(), 1), (",\n  12345678901", 200), ("\n]", 1)];
         let text = joined(alloc, &parts)?;
         expect_printed(&rt, alloc, Layout::Pretty(2), text.as_str(), text.as_str())?;
     }
@@ -539,13 +540,13 @@ fn prints_more_lines_than_the_buffer_holds(rt: HostRuntime) -> Result<(), Fail> 
 }
 
 /// A layout, how a text of it begins, what comes again and again, how it ends, and the calls of the
-/// writer: 200,004 bytes by 65,536, and 400,007.
+/// writer: 200,003 bytes by 1,024, or 400,006, and the newline.
 const SELDOM: &[(Layout, &str, &str, &str, usize)] = &[
-    (Layout::Compact, "[1", ",1", "]", 4),
-    (Layout::Pretty(1), "[\n 1", ",\n 1", "\n]", 7),
+    (Layout::Compact, "[1", ",1", "]", 197),
+    (Layout::Pretty(1), "[\n 1", ",\n 1", "\n]", 392),
 ];
 
-/// Many bytes are written at once, but no more than the buffer holds.
+/// A full buffer of `write` is written at once.
 #[test]
 fn writes_seldom(rt: HostRuntime) -> Result<(), Fail> {
     let alloc = rt.alloc();

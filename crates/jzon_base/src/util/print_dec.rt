@@ -22,7 +22,8 @@ const PLACES: usize = 16;
 
 /// The room that `push_digits` needs, which three stores of 16 bytes fill: for a sign, up to 19
 /// digits before the point, and the 17 bytes to which a point and the digits after it are moved.
-const DIGITS_ROOM: usize = 48;
+#[doc(hidden)]
+pub const DIGITS_ROOM: usize = 48;
 
 type NumberText = ArrayString<MAX_LEN>;
 
@@ -82,6 +83,79 @@ fn push_decimal(bytes: &mut Vec<u8>, positive: bool, n: u64, places: usize) -> b
     put_point(bytes.as_mut_slice(), end - places);
     bytes.truncate(end + 1);
     true
+}
+
+/// Puts the text of a common number (`push_digits`) at the offset, and returns its end; for any
+/// other number the offset. The bytes before it stay.
+#[doc(hidden)]
+#[inline(always)]
+pub fn put_digits(
+    room: &mut [u8],
+    start: usize,
+    positive: bool,
+    mantissa: u64,
+    exponent: i16,
+) -> usize
+    requires { start + 48 ≤ length room.old }
+    ensures text { start < result → take result room.new
+        ≡ take start room.old ++ number_text positive mantissa exponent }
+    ensures some { start < result → 0 < mantissa }
+    ensures left { result ≡ start → room.new ≡ room.old }
+    ensures within { (start ≤ result) × (result ≤ start + 48) }
+    ensures len { length room.new ≡ length room.old }
+{
+    let is_common = mantissa != 0 && exponent <= 0 && -16 <= exponent;
+    if !is_common {
+        return start;
+    }
+    if exponent == 0 {
+        return put_signed(room, start, positive, mantissa);
+    }
+    put_decimal(
+        room,
+        start,
+        positive,
+        mantissa,
+        exponent.unsigned_abs() as usize,
+    )
+}
+
+/// Puts the sign and the digits of a number, with a point before the last `places`, if a digit
+/// precedes it, and returns the end. Otherwise nothing is put, and the offset is returned.
+#[inline(always)]
+fn put_decimal(room: &mut [u8], start: usize, positive: bool, n: u64, places: usize) -> usize
+    requires some { 0 < n }
+    requires places { places ≤ 16 }
+    requires room { start + 48 ≤ length room.old }
+    ensures text { start < result → take result room.new
+        ≡ take start room.old ++ (sign_text positive ++ fraction_text (decimal n) places) }
+    ensures left { result ≡ start → room.new ≡ room.old }
+    ensures within { (start ≤ result) × (result ≤ start + 48) }
+    ensures len { length room.new ≡ length room.old }
+{
+    if n.ilog10() as usize + 1 <= places {
+        return start;
+    }
+    let end = put_signed(room, start, positive, n);
+    put_point(room, end - places);
+    end + 1
+}
+
+/// Puts the sign and the digits of a number, and returns the end.
+#[inline(always)]
+fn put_signed(room: &mut [u8], start: usize, positive: bool, n: u64) -> usize
+    requires some { 0 < n }
+    requires room { start + 48 ≤ length room.old }
+    ensures end { result ≡ start + (length (sign_text positive) + length (decimal n)) }
+    ensures few { length (decimal n) ≤ 20 }
+    ensures any { 0 < length (decimal n) }
+    ensures text { take result room.new ≡ take start room.old ++ (sign_text positive ++ decimal n) }
+    ensures len { length room.new ≡ length room.old }
+{
+    let end = start + (usize::from(!positive) + (n.ilog10() as usize + 1));
+    room[start] = b'-';
+    write_digits(n, room, end);
+    end
 }
 
 /// Puts a point at the offset; the bytes from there on are moved by one, 16 of them.

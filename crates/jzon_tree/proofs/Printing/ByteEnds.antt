@@ -6,6 +6,10 @@ use Rattle.jzon_base.proofs.Common.{get_or-append-add, take-append-add}
 use Rattle.std.proofs.lemmas.List.{length-append}
 use Rattle.std.proofs.lemmas.List.{get_or-replicate}
 use Rattle.std.proofs.lemmas.Simd.{take_more_put_chunk, length-put_chunk, get_or-put_chunk_above}
+use Rattle.std.proofs.lemmas.List.{take_more_set, set-append_left, length-set}
+use Rattle.std.specs.Prelude.{set}
+use Rattle.std.proofs.Math.Seq.{take-set-lt}
+use Rattle.jzon_base.proofs.Common.{refl}
 use lib.Lanes.{chunk, put_chunk}
 
 -- the first n bytes of a text are put at a position, and then its last n where they belong
@@ -70,3 +74,20 @@ put_in_quotes old text items new s m at quotes room put left same =
     rw (next, quotes, take-append-add old (replicate m 34) 1, take-replicate {X = ℕ} 1 m 34 (omega arith)) in
     rw (end, take_more new k 0 (omega (arith, many, same)), put, opening, left, quote)
     (rw (append_assoc (old ++ 34 ∷ []) text (34 ∷ []), append_assoc old (34 ∷ []) (text ++ 34 ∷ [])))
+
+-- a text is put after the place of a quote, and then a quote on each side of it
+pub quotes_put : (old new text : List ℕ) (s : ℕ) → s + (length text + 2) ≤ length old → length new ≡ length old
+    → take (s + 1 + length text) new ≡ take (s + 1) old ++ text
+    → take (s + (length text + 2)) (set (set new s 34) (s + 1 + length text) 34) ≡ take s old ++ 34 ∷ (text ++ 34 ∷ [])
+quotes_put old new text s fits same put =
+    let k : ℕ = s + 1 + length text in
+    let end : s + (length text + 2) ≡ k + 1 = omega arith in
+    let first : take (s + 1) (set old s 34) ≡ take s old ++ 34 ∷ [] = take_more_set old s 34 (omega arith) in
+    let front : take k (set new s 34) ≡ (take s old ++ 34 ∷ []) ++ text =
+    take-set-lt k new s 34 (omega arith) ∙ ap (λ (l : List ℕ). set l s 34) put
+    ∙ set-append_left (take (s + 1) old) text s 34 (omega (arith, length-take-le (s + 1) old (omega arith)))
+    ∙ ap (λ (l : List ℕ). l ++ text) (sym (take-set-lt (s + 1) old s 34 (omega arith)) ∙ first) in
+    ap (λ n. take n (set (set new s 34) k 34)) end
+    ∙ take_more_set (set new s 34) k 34 (omega (arith, length-set new s 34, same))
+    ∙ ap (λ (l : List ℕ). l ++ 34 ∷ []) front
+    ∙ rw (append_assoc (take s old ++ 34 ∷ []) text (34 ∷ []), append_assoc (take s old) (34 ∷ []) (text ++ 34 ∷ [])) refl

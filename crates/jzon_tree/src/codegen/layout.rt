@@ -1,7 +1,7 @@
 //! Layouts: the whitespace of a text, which is written here, and the order of an object's entries
 //! (docs/GENERATORS.md, "Layouts of one's own").
 
-ghost use Rattle.std.specs.Prelude.{◌≡◌, ◌+◌, ◌<◌, ◌∷◌, ◌++◌, Bool, true, false, IsTrue, IfOk, Ok, None, OnErr, IsSome, replicate};
+ghost use Rattle.std.specs.Prelude.{◌≡◌, ◌+◌, ◌<◌, ◌≤◌, length, take, ◌∷◌, ◌++◌, Bool, true, false, IsTrue, IfOk, Ok, None, OnErr, IsSome, replicate};
 ghost use Rattle.jzon_base.specs.PairList.{keys_of};
 ghost use Rattle.jzon_tree.specs.Entries.{entries_of};
 ghost use Rattle.jzon_tree.specs.Generator.{IsAnswer, Sends, Just};
@@ -157,11 +157,10 @@ pub(super) fn send_line<W: Write>(
     Ok(())
 }
 
-/// For an outlet's `put_line`: adds a newline and `spaces` spaces if there are fewer than
-/// `LINE_ROOM` of them and there is room for `LINE_ROOM` bytes, and returns whether it did.
-/// Otherwise nothing is added.
+/// Adds a newline and `spaces` spaces if there are fewer than 8 of them and there is room for 8
+/// bytes, and returns whether it did. Otherwise nothing is added.
 #[inline(always)]
-pub fn push_line(bytes: &mut Vec<u8>, spaces: u128) -> bool
+pub(super) fn push_line(bytes: &mut Vec<u8>, spaces: u128) -> bool
     ensures done { IsTrue result → bytes.new.items ≡ bytes.old.items ++ 10 ∷ replicate spaces 32 }
     ensures left { result ≡ false → bytes.new.items ≡ bytes.old.items }
 {
@@ -177,8 +176,18 @@ pub fn push_line(bytes: &mut Vec<u8>, spaces: u128) -> bool
     true
 }
 
-/// Writes `spaces` spaces, as many at a time as `SPACES` has. Cold, because few lines begin with
-/// more than 63.
+/// Puts a newline and 7 spaces at an offset. The bytes before it stay.
+#[inline(always)]
+pub(super) fn put_spaces(room: &mut [u8], start: usize)
+    requires { start + 8 ≤ length room.old }
+    ensures text { take (start + 8) room.new ≡ take start room.old ++ 10 ∷ replicate 7 32 }
+    ensures len { length room.new ≡ length room.old }
+{
+    room[start..start + LINE_ROOM].copy_from_slice(&NEWLINE_AND_SPACES[..LINE_ROOM]);
+}
+
+/// Writes `spaces` spaces, 512 at a time. Cold, because few lines begin with more than 63. An error
+/// is stored in the slot.
 #[cold]
 #[inline(never)]
 fn send_spaces<W: Write>(writer: &mut W, spaces: u128, slot: &mut ErrorSlot) -> SlotResult<()>

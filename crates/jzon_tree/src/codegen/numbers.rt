@@ -6,11 +6,11 @@ ghost use Rattle.jzon_base.specs.NumberText.{written_text};
 use jzon_base::number::Number;
 use jzon_base::util::print_dec;
 
-/// For an outlet's `put_number`: adds the text of the number if it is the mantissa's digits, with
-/// at most a minus before them and a point before the last 1 to 16, and there is room for 48 bytes,
-/// and returns whether it did. Otherwise, and for 0 and NaN, nothing is added.
+/// Adds the text of the number if it is the mantissa's digits, with at most a minus before them and
+/// a point before the last 1 to 16, and there is room for 48 bytes, and returns whether it did.
+/// Otherwise, and for 0 and NaN, nothing is added.
 #[inline(always)]
-pub fn push_digits(bytes: &mut Vec<u8>, number: &Number) -> bool
+pub(super) fn push_digits(bytes: &mut Vec<u8>, number: &Number) -> bool
     ensures done { IsTrue result → bytes.new.items ≡ bytes.old.items ++ written_text number.now }
     ensures left { result ≡ false → bytes.new.items ≡ bytes.old.items }
 {

@@ -1,6 +1,6 @@
 //! Strings and their escapes (docs/RULES.md, "Printed values").
 
-ghost use Rattle.std.specs.Prelude.{◌≡◌, ◌+◌, ◌≤◌, ◌++◌, false, length, drop, IsTrue, vec_capacity, vec_len};
+ghost use Rattle.std.specs.Prelude.{◌≡◌, ◌+◌, ◌≤◌, ◌++◌, false, length, take, drop, IsTrue, vec_capacity, vec_len};
 ghost use Rattle.jzon_base.specs.Private.PlainBytes.{is_plain};
 ghost use Rattle.jzon_tree.specs.Private.Printing.{PutsPlain};
 ghost use Rattle.jzon_tree.specs.Text.{escaped_byte, quoted};
@@ -18,12 +18,11 @@ const BY_ENDS_MAX_LEN: usize = 32;
 /// The room that such a string takes with its quotes, at most.
 pub(super) const BY_ENDS_ROOM: usize = BY_ENDS_MAX_LEN + 2;
 
-/// For an outlet's `put_string`: adds a string of at most `BY_ENDS_MAX_LEN` bytes in quotes if it
-/// needs no escape and there is room for `BY_ENDS_ROOM` bytes, and returns whether it did.
-/// Otherwise nothing is added.
+/// Adds a string of at most 32 bytes in quotes if it needs no escape and there is room for 34 bytes,
+/// and returns whether it did. Otherwise nothing is added.
 // By `len` and `capacity`, `put_key` of memory knows that there is still room for a colon.
 #[inline(always)]
-pub fn push_short(bytes: &mut Vec<u8>, string: &[u8]) -> bool
+pub(super) fn push_short(bytes: &mut Vec<u8>, string: &[u8]) -> bool
     ensures done { IsTrue result → bytes.new.items ≡ bytes.old.items ++ quoted string.now }
     ensures left { result ≡ false → bytes.new.items ≡ bytes.old.items }
     ensures len { vec_len bytes.new ≤ vec_len bytes.old + 34 }
@@ -45,8 +44,29 @@ pub fn push_short(bytes: &mut Vec<u8>, string: &[u8]) -> bool
     false
 }
 
-/// Puts a string of at most `BY_ENDS_MAX_LEN` bytes at an offset if it needs no escape, and returns
-/// whether it did. Each arm puts the first and the last `N` bytes, which may overlap (`put_ends`).
+/// Puts a string of at most 32 bytes in quotes at an offset if it needs no escape, and returns
+/// whether it did. The bytes before the offset stay.
+#[inline(always)]
+pub(super) fn put_short(room: &mut [u8], start: usize, string: &[u8]) -> bool
+    requires { start + 34 ≤ length room.old }
+    ensures done { IsTrue result → take (start + (length string.now + 2)) room.new
+        ≡ take start room.old ++ quoted string.now }
+    ensures few { IsTrue result → length string.now ≤ 32 }
+    ensures left { result ≡ false → room.new ≡ room.old }
+    ensures len { length room.new ≡ length room.old }
+{
+    if string.len() > BY_ENDS_MAX_LEN || !put_if_plain(room, start + 1, string) {
+        return false;
+    }
+    room[start] = b'"';
+    room[start + 1 + string.len()] = b'"';
+    true
+}
+
+/// Puts a string of at most 32 bytes at an offset if it needs no escape. Otherwise nothing is put,
+/// and the result is false. The clause `PutsPlain` says this, and that the byte after the string
+/// stays, which is the closing quote of the caller. Each arm puts the first and the last `N` bytes,
+/// which may overlap (`put_ends`).
 #[inline(always)]
 fn put_if_plain(bytes: &mut [u8], offset: usize, string: &[u8]) -> bool
     requires few { length string.now ≤ BY_ENDS_MAX_LEN }

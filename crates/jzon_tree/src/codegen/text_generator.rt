@@ -12,10 +12,10 @@ ghost use Rattle.jzon_tree.specs.Generator.{Added, Failed, Counts, Emits, Just, 
 ghost use Rattle.jzon_tree.specs.Generators.{text_meaning, with_writer_in, same_emitted, fresh, IsConsumed};
 ghost use Rattle.jzon_tree.specs.Styles.{compact_style, pretty_style};
 
+use crate::codegen::destination::{Destination, Memory, Outlet, Through};
 use crate::codegen::error_slot::{ErrorSlot, SlotResult, send, take_result};
 use crate::codegen::generator::Generator;
 use crate::codegen::layout::{Compact, Layout, Pretty, send_line};
-use crate::codegen::outlet::{Destination, Memory, Outlet, Through};
 use crate::object::Object;
 use jzon_base::error::{Error, Result};
 use jzon_base::number::Number;
@@ -26,12 +26,12 @@ use std::io::{self, ErrorKind, Write};
 /// How many bytes a text that is written into memory first has room for.
 const FIRST_ROOM: usize = 1024;
 
-/// Writes text in a layout, to memory, a writer or an outlet. `in_memory` and `to_writer` make one;
-/// `consume` returns the text that is in memory. `dent` is the number of open indents, and `faults`
+/// Writes text in a layout, to memory or a writer. `in_memory` and `to_writer` make one; `consume`
+/// returns the text that is in memory. `dent` is the number of open indents, and `faults`
 /// the number of errors that were counted.
 #[derive(Debug, Drop)]
 pub struct TextGenerator<P: Destination, L: Layout> {
-    pub(super) place: P,
+    pub(super) destination: P,
     layout: L,
     dent: u64,
     faults: u64,
@@ -39,12 +39,13 @@ pub struct TextGenerator<P: Destination, L: Layout> {
 
 impl<P: Destination, L: Layout> TextGenerator<P, L> {
     /// A generator of this layout that adds to what was written to the destination.
-    pub(super) fn over(place: P, layout: L) -> TextGenerator<P, L>
+    #[inline(always)]
+    pub(super) fn over(destination: P, layout: L) -> TextGenerator<P, L>
         ensures { ⟦<TextGenerator<P, L> as Generator>⟧.meaning result
-            ≡ fresh (P.out place) (L.style layout) (P.lender place) }
+            ≡ fresh (P.out destination) (L.style layout) (P.lender destination) }
     {
         TextGenerator {
-            place,
+            destination,
             layout,
             dent: 0,
             faults: 0,
@@ -73,7 +74,7 @@ impl<P: Destination, L: Layout> TextGenerator<P, L> {
             (text_meaning P.out P.lender L.style self.new) result }
         ensures slot { OnErr result (IsSome slot.new) }
     {
-        if self.place.put_number(num) {
+        if self.destination.put_number(num) {
             return Ok(());
         }
         self.write_number_text(num, slot)
@@ -105,7 +106,7 @@ impl<P: Destination, L: Layout> Generator for TextGenerator<P, L> {
     ghost with_writer = { with_writer_in P.with_writer };
 
     fn get_writer(&mut self) -> &mut P::T {
-        self.place.writer()
+        self.destination.writer()
     }
 
     fn write_min(&mut self, slice: &[u8], min: u8) -> io::Result<()> {
@@ -180,13 +181,13 @@ impl<P: Destination, L: Layout> Generator for TextGenerator<P, L> {
 
     #[inline(always)]
     fn try_write(&mut self, slice: &[u8], slot: &mut ErrorSlot) -> SlotResult<()> {
-        let step = send(self.place.writer(), slice, slot);
+        let step = send(self.destination.writer(), slice, slot);
         self.count_fault(step)
     }
 
     #[inline(always)]
     fn try_write_char(&mut self, ch: u8, slot: &mut ErrorSlot) -> SlotResult<()> {
-        if self.place.put_byte(ch) {
+        if self.destination.put_byte(ch) {
             return Ok(());
         }
         self.try_write(&[ch], slot)
@@ -194,7 +195,7 @@ impl<P: Destination, L: Layout> Generator for TextGenerator<P, L> {
 
     #[inline(always)]
     fn try_write_string(&mut self, string: &str, slot: &mut ErrorSlot) -> SlotResult<()> {
-        if self.place.put_string(string.as_bytes()) {
+        if self.destination.put_string(string.as_bytes()) {
             return Ok(());
         }
         self.try_write_escaped(b"\"", string.as_bytes(), slot)
@@ -203,7 +204,7 @@ impl<P: Destination, L: Layout> Generator for TextGenerator<P, L> {
     fn try_write_key(&mut self, key: &str, slot: &mut ErrorSlot) -> SlotResult<()> {
         // A layout with lines has a space after the colon.
         let wide = self.layout.spaces().is_some();
-        if self.place.put_key(key.as_bytes(), wide) {
+        if self.destination.put_key(key.as_bytes(), wide) {
             return Ok(());
         }
         self.try_write_string(key, slot)?;
@@ -215,7 +216,7 @@ impl<P: Destination, L: Layout> Generator for TextGenerator<P, L> {
         if num.as_parts().2 != 0 {
             return self.write_decimal(num, slot);
         }
-        if self.place.put_number(num) {
+        if self.destination.put_number(num) {
             return Ok(());
         }
         self.write_number_text(num, slot)
@@ -228,14 +229,14 @@ impl<P: Destination, L: Layout> Generator for TextGenerator<P, L> {
             return Ok(());
         };
         let spaces = self.dent as u128 * spaces as u128;
-        if self.place.put_line(spaces) {
+        if self.destination.put_line(spaces) {
             return Ok(());
         }
-        let step = send_line(self.place.writer(), spaces, slot);
+        let step = send_line(self.destination.writer(), spaces, slot);
         self.count_fault(step)
     }
 
-    ghost writer_law = { λ g w. same_emitted (P.out_law g.place w) (P.lender_law g.place w) };
+    ghost writer_law = { λ g w. same_emitted (P.out_law g.destination w) (P.lender_law g.destination w) };
 
     ghost style_law = { λ g. L.style_law g.layout };
 }
@@ -296,15 +297,15 @@ impl<L: Layout + Drop> TextGenerator<Memory, L> {
     pub fn consume(self) -> Result<String>
         ensures { IsConsumed (⟦<TextGenerator<Memory, L> as Generator>⟧.meaning self).out result }
     {
-        String::from_utf8(self.place.bytes).map_err(|_| Error::FailedUtf8Parsing)
+        String::from_utf8(self.destination.bytes).map_err(|_| Error::FailedUtf8Parsing)
     }
 
     /// The bytes that were written, which are UTF-8, as a string. They aren't tested.
     pub(crate) fn into_text(self) -> String
-        requires { IsUtf8 self.place.bytes.items }
-        ensures { string_bytes result ≡ self.place.bytes.items }
+        requires { IsUtf8 self.destination.bytes.items }
+        ensures { string_bytes result ≡ self.destination.bytes.items }
     {
-        unsafe { String::from_utf8_unchecked(self.place.bytes) }
+        unsafe { String::from_utf8_unchecked(self.destination.bytes) }
     }
 }
 
@@ -360,10 +361,10 @@ impl<'a, W: Outlet, L: Layout> TextGenerator<Through<'a, W>, L> {
     pub(crate) fn into_outlet(self) -> &'a mut W
     where
         L: Drop,
-        ensures same_reference { result.ghost_name ≡ self.entry.place.outlet.ghost_name }
-        ensures outlet { result.now ≡ self.entry.place.outlet.now }
+        ensures same_reference { result.ghost_name ≡ self.entry.destination.outlet.ghost_name }
+        ensures outlet { result.now ≡ self.entry.destination.outlet.now }
     {
-        let Through { outlet } = self.place;
+        let Through { outlet } = self.destination;
         outlet
     }
 }

@@ -2,9 +2,10 @@
 //! that is being written. Calls that print ensure `IsValue` too, because the laws on reading back
 //! need it.
 
-ghost use Rattle.std.specs.Prelude.{◌≡◌, ◌<◌, ◌≤◌, ◌^◌, OnOk, OnErr, IfOk, IsOkUnless, string_bytes};
+ghost use Rattle.std.specs.Prelude.{◌≡◌, [], ◌<◌, ◌≤◌, ◌^◌, OnOk, OnErr, IfOk, IsOkUnless, string_bytes};
 ghost use Rattle.std.specs.Io.KnownBytes.{Appends};
 ghost use Rattle.jzon_base.specs.Written.{AppendsBeginning};
+ghost use Rattle.jzon_tree.specs.Private.Buffered.{held, known_len, left};
 ghost use Rattle.jzon_tree.specs.Generator.{Sends};
 ghost use Rattle.jzon_tree.specs.Lawful.{IsValue};
 ghost use Rattle.jzon_tree.specs.Styles.{compact_style, pretty_style};
@@ -13,16 +14,16 @@ ghost use Rattle.jzon_tree.specs.Value.{nest};
 ghost use Rattle.jzon_tree.specs.View.{view};
 ghost use Rattle.jzon_tree.specs.Writing.{Writes};
 
+use crate::codegen::buffered::{Buffered, Start};
+use crate::codegen::destination::Outlet;
 use crate::codegen::driver::write_value;
-use crate::codegen::{
-    Compact, Layout, Outlet, Pretty, PrettyWriterGenerator, TextGenerator, WriterGenerator,
-    write_json,
-};
+use crate::codegen::{Compact, Layout, Pretty, TextGenerator, write_json};
 use crate::value::JsonValue;
 use crate::value::inspect::inspect;
 use jzon_base::error::{Error, Result};
 use std::alloc::Global;
 use std::io::{self, Write};
+use std::marker::Brand;
 
 impl JsonValue {
     /// The compact text of the value, with no whitespace outside of its strings. Fails with
@@ -86,8 +87,9 @@ impl JsonValue {
     /// the writer's, or reports that 2^64 indents would be open; a prefix of the text is then
     /// written. Only the writer may allocate.
     ///
-    /// Nothing is buffered: each bracket, comma, key and value is at least one call of the writer,
-    /// so wrap a file in a `BufWriter`. No newline is written at the end, and `flush` isn't called.
+    /// The text is collected in 1,024 bytes on the stack, so a file needs no `BufWriter` for one
+    /// value. A longer string goes to the writer at once. No newline is written at the end, and
+    /// `flush` isn't called.
     pub fn write<W: Write>(&self, writer: &mut W) -> io::Result<()>
         ensures ok { OnOk result (Appends (W.contents writer.old) (W.contents writer.new)
             (compact (view self.now))) }
@@ -96,11 +98,10 @@ impl JsonValue {
             (compact (view self.now))) }
         ensures value { IsValue (view self.now) }
     {
-        let mut generator = WriterGenerator::new(writer);
-        write_json(&mut generator, self)
+        write_in::<W, Compact, Brand>(self, writer, Compact)
     }
 
-    /// Writes the text that `pretty` returns, and fails as `write` does. Nothing is buffered.
+    /// Writes the text that `pretty` returns. It is collected, and fails, as `write` does.
     ///
     /// ```rust
     /// let mut buffered = BufWriter::new(alloc, writer)?;
@@ -117,13 +118,13 @@ impl JsonValue {
             (pretty (view self.now) spaces 0)) }
         ensures value { IsValue (view self.now) }
     {
-        let mut generator = PrettyWriterGenerator::new(writer, spaces);
-        write_json(&mut generator, self)
+        write_in::<W, Pretty, Brand>(self, writer, Pretty(spaces))
     }
 
     /// Writes the text that `lay_out` returns. An error is the writer's, or reports that the
     /// layout's `order` failed or that 2^64 indents would be open; a prefix of the text is then
-    /// written. Only the layout and the writer may allocate. Nothing is buffered.
+    /// written: all that is before, if `order` failed. Only the layout and the writer may allocate.
+    /// It is collected as `write` does.
     pub fn write_layout<W: Write, L: Layout + Drop>(
         &self,
         writer: &mut W,
@@ -133,27 +134,62 @@ impl JsonValue {
             (W.contents writer.old) (W.contents writer.new) result }
         ensures value { IsValue (view self.now) }
     {
-        // A borrowed layout is a layout too.
-        let mut generator = TextGenerator::to_writer(writer, &layout);
-        write_json(&mut generator, self)
+        write_in::<W, L, Brand>(self, writer, layout)
     }
+}
 
-    /// As `write_layout`, to an outlet: a writer that takes strings, numbers and lines at once,
-    /// such as a buffer of the caller's.
-    pub fn write_outlet<W: Outlet, L: Layout + Drop>(
-        &self,
-        outlet: &mut W,
-        layout: L,
-    ) -> io::Result<()>
-        ensures writing { Sends (Writes (L.style layout) 0 (view self.now))
-            (W.Write.contents outlet.old) (W.Write.contents outlet.new) result }
-        ensures value { IsValue (view self.now) }
-    {
-        let mut generator = TextGenerator::to_outlet(outlet, layout);
-        let answer = write_json(&mut generator, self);
-        let inner = generator.into_outlet();
-        // No effect at run time. From this use the proof learns what the outlet holds.
-        let _ = &*inner;
-        answer
-    }
+/// Writes the text of the value in the layout through a buffer on the stack. `S.start`, which only
+/// the proof has, is how many bytes the writer has.
+fn write_in<W: Write, L: Layout + Drop, S: Start>(
+    json: &JsonValue,
+    writer: &mut W,
+    layout: L,
+) -> io::Result<()>
+    requires start { S.start ≡ known_len (W.contents writer.old) }
+    ensures writing { Sends (Writes (L.style layout) 0 (view json.now))
+        (W.contents writer.old) (W.contents writer.new) result }
+    ensures value { IsValue (view json.now) }
+{
+    let mut buffered: Buffered<'_, W, S> = Buffered::new(writer);
+    let answer = write_held(json, &mut buffered, layout);
+    let inner = buffered.into_writer();
+    // No effect at run time. From this use the proof learns what the writer holds.
+    let _ = &*inner;
+    answer
+}
+
+/// Writes the text after what is held, and writes out the buffer.
+#[inline(always)]
+fn write_held<W: Write, L: Layout + Drop, S: Start>(
+    json: &JsonValue,
+    buffered: &mut Buffered<'_, W, S>,
+    layout: L,
+) -> io::Result<()>
+    ensures writing { Sends (Writes (L.style layout) 0 (view json.now))
+        (held W.contents S.start buffered.old) (held W.contents S.start buffered.new) result }
+    ensures all { OnOk result (left buffered.new ≡ []) }
+    ensures value { IsValue (view json.now) }
+{
+    let answer = write_outlet(json, buffered, layout);
+    buffered.finish(answer)
+}
+
+/// Writes the text of the value in the layout to an outlet. It is generic because the borrow checker
+/// doesn't cover a `TextGenerator` over a `&mut` of a struct with a ghost field.
+#[inline(always)]
+fn write_outlet<W: Outlet, L: Layout + Drop>(
+    json: &JsonValue,
+    outlet: &mut W,
+    layout: L,
+) -> io::Result<()>
+    ensures writing { Sends (Writes (L.style layout) 0 (view json.now))
+        (W.Write.contents outlet.old) (W.Write.contents outlet.new) result }
+    ensures value { IsValue (view json.now) }
+{
+    let mut generator = TextGenerator::to_outlet(outlet, layout);
+    let answer = write_json(&mut generator, json);
+    let inner = generator.into_outlet();
+    // No effect at run time. From this use the proof learns what the outlet holds.
+    let _ = &*inner;
+    answer
 }

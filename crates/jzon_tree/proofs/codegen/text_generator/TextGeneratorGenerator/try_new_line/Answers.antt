@@ -30,12 +30,12 @@ returns-clause-bytes g c =
     let style = g.L.Layout.style s.layout in
     let n = c.in-Some.spaces in
     let laid : LaysOut style (Some n) = rw c.in-Some.is at c.spaces.ensures in
-    let place = c.put_line.new.self in
+    let destination = c.put_line.new.self in
     let writer = c.send_line-step.new.writer in
     Emits-counted (IsAllowedWhitespace style s.dent) ((pretty_layout n).line s.dent)
     (text_meaning g.P.Destination.out g.P.Destination.lender g.L.Layout.style s) _ _ _ _ _ _
     (spaces_are_whitespace false (s.dent * n), laid.0 s.dent)
     (c.writer.ensures.bytes ∙ c.put_line.ensures.left c.if-put_line.false) c.send_line-step.ensures.bytes
-    (same_emitted (g.met.P.Destination.out_law place writer)
-    (g.met.P.Destination.lender_law place writer ∙ c.put_line.ensures.lender))
+    (same_emitted (g.met.P.Destination.out_law destination writer)
+    (g.met.P.Destination.lender_law destination writer ∙ c.put_line.ensures.lender))
     c.count_fault.ensures.result c.count_fault.ensures.faults

@@ -1,6 +1,7 @@
 -- What a buffered writer holds: the bytes that its writer got, and those still in the buffer.
 use Rattle.std.specs.Prelude.{ℕ, List, ◌∷◌, ◌++◌, length, drop, nat_le, Option, None, Some, if◌then◌else◌}
-use Rattle.jzonfmt.specs.declared.buffered.Buffered.{Buffered}
+use Rattle.jzon_tree.specs.Private.Buffer.{buffer_items}
+use Rattle.jzon_tree.specs.declared.codegen.buffered.Buffered.{Buffered}
 
 -- the name of the reference to the writer, and the writer's bytes with those that are left after them
 pub record Held : Type 0 where
@@ -24,7 +25,7 @@ known_len (Some xs) = length xs
 
 -- the bytes that the writer didn't take yet
 abbrev pub left : {W : Type 0} {S : Type 0} → Buffered W S → List ℕ
-left b = drop b.taken b.bytes.items
+left b = drop b.taken (buffer_items b.buffer)
 
 -- What the buffer holds, where its writer had `start` bytes at first. The name of the reference is part of it: a call
 -- that only keeps what is held, or appends to it, has not put another writer in its place.

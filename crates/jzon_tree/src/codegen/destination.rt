@@ -14,52 +14,48 @@ use crate::codegen::strings::{BY_ENDS_ROOM, push_short};
 use jzon_base::number::Number;
 use std::io::Write;
 
-/// A writer that may take a string, a number or the start of a line at once. A buffer of your own
-/// does, while it has room; for any other writer there is `write_layout`.
-///
-/// `JsonValue::write_outlet` asks a hook first, and calls `Write::write` only if the hook returns
-/// `false`, which saves a buffer most of those calls (measured, not proved). A hook adds all that
-/// it names and returns `true`, or adds nothing and returns `false`, as the provided ones do. Over
-/// a vector, `push_short`, `push_digits` and `push_line` do so. No hook reports an error: what a
-/// writer can't take now is left to `write`.
-pub trait Outlet: Write {
-    /// Adds the string in quotes, escaped, or nothing. Keys come here too.
-    #[inline(always)]
+/// A writer that adds a byte, a string, a key, a number or the start of a line at once if it fits.
+/// `Buffered` alone is one. By this trait `TextGenerator` names no struct with a ghost field, beside
+/// whose `&mut` the borrow checker admits no other type arguments.
+pub(crate) trait Outlet: Write {
+    /// Adds the byte, or nothing.
+    fn put_byte(&mut self, byte: u8) -> bool
+        ensures done { IsTrue result → Adds (Just (byte ∷ []))
+            (Self.Write.contents self.old) (Self.Write.contents self.new) }
+        ensures left { result ≡ false → Self.Write.contents self.new
+            ≡ Self.Write.contents self.old };
+
+    /// Adds the string in quotes, escaped, or nothing.
     fn put_string(&mut self, string: &[u8]) -> bool
         ensures done { IsTrue result → Adds (Just (quoted string.now))
             (Self.Write.contents self.old) (Self.Write.contents self.new) }
         ensures left { result ≡ false → Self.Write.contents self.new
-            ≡ Self.Write.contents self.old }
-    {
-        false
-    }
+            ≡ Self.Write.contents self.old };
+
+    /// Adds the key in quotes, escaped, with its colon and, if `wide`, a space, or nothing.
+    fn put_key(&mut self, key: &[u8], wide: bool) -> bool
+        ensures done { IsTrue result → Adds (Just (quoted key.now ++ colon_text wide))
+            (Self.Write.contents self.old) (Self.Write.contents self.new) }
+        ensures left { result ≡ false → Self.Write.contents self.new
+            ≡ Self.Write.contents self.old };
 
     /// Adds the text of the number, `null` for NaN, or nothing.
-    #[inline(always)]
     fn put_number(&mut self, number: &Number) -> bool
         ensures done { IsTrue result → Adds (Just (written_text number.now))
             (Self.Write.contents self.old) (Self.Write.contents self.new) }
         ensures left { result ≡ false → Self.Write.contents self.new
-            ≡ Self.Write.contents self.old }
-    {
-        false
-    }
+            ≡ Self.Write.contents self.old };
 
     /// Adds a newline and `spaces` spaces, or nothing.
-    #[inline(always)]
     fn put_line(&mut self, spaces: u128) -> bool
         ensures done { IsTrue result → Adds (Just (10 ∷ replicate spaces 32))
             (Self.Write.contents self.old) (Self.Write.contents self.new) }
         ensures left { result ≡ false → Self.Write.contents self.new
-            ≡ Self.Write.contents self.old }
-    {
-        false
-    }
+            ≡ Self.Write.contents self.old };
 }
 
-/// Where a `TextGenerator` writes: memory of its own, a borrowed writer, or a borrowed outlet. A
-/// provided method adds nothing, so the generator then writes to the writer. `Memory` overrides all
-/// of them, and `Through` those that an `Outlet` has.
+/// Where a `TextGenerator` writes: memory of its own, a borrowed writer, or such a writer with a
+/// buffer before it. A provided method adds nothing, so the generator then writes to the writer.
 pub trait Destination {
     /// The writer.
     type T: Write;
@@ -88,7 +84,7 @@ pub trait Destination {
         false
     }
 
-    /// As `Outlet::put_string`.
+    /// Adds the string in quotes, escaped, or nothing.
     #[inline(always)]
     fn put_string(&mut self, string: &[u8]) -> bool
         ensures done { IsTrue result → Adds (Just (quoted string.now)) (out self.old)
@@ -110,7 +106,7 @@ pub trait Destination {
         false
     }
 
-    /// As `Outlet::put_number`.
+    /// Adds the text of the number, `null` for NaN, or nothing.
     #[inline(always)]
     fn put_number(&mut self, number: &Number) -> bool
         ensures done { IsTrue result → Adds (Just (written_text number.now)) (out self.old)
@@ -121,7 +117,7 @@ pub trait Destination {
         false
     }
 
-    /// As `Outlet::put_line`.
+    /// Adds a newline and `spaces` spaces, or nothing.
     #[inline(always)]
     fn put_line(&mut self, spaces: u128) -> bool
         ensures done { IsTrue result → Adds (Just (10 ∷ replicate spaces 32)) (out self.old)
@@ -219,7 +215,7 @@ impl<'a, W: Write> Destination for &'a mut W {
     ghost lender_law = { λ _ _. refl };
 }
 
-/// A borrowed outlet. An `Outlet` has no `put_key`, so keys come to its `put_string`.
+/// A borrowed outlet.
 #[derive(Drop)]
 pub struct Through<'a, W> {
     pub(super) outlet: &'a mut W,
@@ -239,8 +235,18 @@ impl<'a, W: Outlet> Destination for Through<'a, W> {
     }
 
     #[inline(always)]
+    fn put_byte(&mut self, byte: u8) -> bool {
+        self.outlet.put_byte(byte)
+    }
+
+    #[inline(always)]
     fn put_string(&mut self, string: &[u8]) -> bool {
         self.outlet.put_string(string)
+    }
+
+    #[inline(always)]
+    fn put_key(&mut self, key: &[u8], wide: bool) -> bool {
+        self.outlet.put_key(key, wide)
     }
 
     #[inline(always)]

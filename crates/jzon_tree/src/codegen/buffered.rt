@@ -1,17 +1,22 @@
-//! A buffered writer whose contract says that its writer stays the same, and loses no byte
-//! (`held`).
+//! A writer with a buffer on the stack.
+//!
+//! In clauses, `left b` are the bytes in the buffer that the writer didn't take yet. `held
+//! W.contents S.start b` are the name of the reference to the writer (`ghost_name`), its bytes, and
+//! then those in the buffer. They are known only if the writer's bytes are, and are at least
+//! `S.start`. So a call that keeps them, or adds to them, kept the writer and its bytes.
 
-ghost use Rattle.std.specs.Prelude.{◌≡◌, ℕ, ◌+◌, ◌≤◌, [], length, take, vec_len, vec_capacity, MatchOption, OnOk, IfNone, IfSome, IsSome};
+ghost use Rattle.std.specs.Prelude.{◌≡◌, ℕ, ◌+◌, ◌≤◌, [], length, take, MatchOption, OnErr, OnOk, IfNone, IfSome, IsErr, IsSome};
 ghost use Rattle.std.specs.Io.KnownBytes.{Appends, Keeps};
 
-use jzon::codegen::{Outlet, push_digits, push_line, push_short};
-use jzon::number::Number;
+use crate::codegen::buffer::Buffer;
+use crate::codegen::destination::Outlet;
+use jzon_base::number::Number;
 use std::io::{self, ErrorKind, Write};
 use std::marker::{Brand, PhantomData};
 
 /// A number that only proofs use: how many bytes the writer had before the buffer was made. By it a
 /// clause says that none of these is lost.
-pub trait Start {
+pub(crate) trait Start {
     ghost start: { ℕ };
 }
 
@@ -20,72 +25,99 @@ impl Start for Brand {
     ghost start = { 0 };
 }
 
-/// Collects bytes in memory that it is given, and writes them in order when the next don't fit. It
-/// never allocates. After an error of the writer, the bytes that it didn't accept are kept.
+/// Collects bytes, and writes them in order when the next don't fit. After an error of the writer,
+/// the bytes that it didn't accept are kept.
 #[derive(Drop)]
-pub struct Buffered<'a, W, S> {
+pub(crate) struct Buffered<'a, W, S> {
     inner: &'a mut W,
-    bytes: Vec<u8>,
-    /// How many of these bytes the writer has accepted.
+    buffer: Buffer,
+    /// How many of the bytes in `buffer` the writer has accepted.
     taken: usize,
+    /// Whether the writer failed and left bytes in `buffer`.
+    has_failed: bool,
     /// The error slot: the error of a failed call, until that call returns it.
     error: Option<io::Error>,
     since: PhantomData<S>,
-    ghost within: { taken ≤ length bytes.items },
+    ghost within: { taken ≤ buffer.len },
 }
 
 impl<'a, W: Write, S: Start> Buffered<'a, W, S> {
-    ghost use Rattle.jzonfmt.specs.Buffered.{held, left};
+    ghost use Rattle.jzon_tree.specs.Private.Buffered.{held, left};
 
-    /// A buffer before the writer `inner`. `memory` is an empty vector, whose capacity is the size
-    /// of the buffer.
-    pub fn new(inner: &'a mut W, memory: Vec<u8>) -> Buffered<'a, W, S>
+    /// An empty buffer before the writer `inner`.
+    #[inline(always)]
+    pub(crate) fn new(inner: &'a mut W) -> Buffered<'a, W, S>
         ensures same_reference { result.inner.ghost_name ≡ inner.entry.ghost_name }
         ensures writer { result.inner.now ≡ inner.old }
-        ensures bytes { result.bytes ≡ memory }
-        ensures taken { result.taken ≡ 0 }
+        ensures bytes { left result ≡ [] }
     {
         Buffered {
             inner,
-            bytes: memory,
+            buffer: Buffer::new(),
             taken: 0,
+            has_failed: false,
             error: None,
             since: PhantomData,
         }
     }
 
     /// The reference to the writer that `new` got. Bytes that weren't written are dropped.
-    pub fn into_writer(self) -> &'a mut W
+    #[inline(always)]
+    pub(crate) fn into_writer(self) -> &'a mut W
         ensures same_reference { result.ghost_name ≡ self.entry.inner.ghost_name }
         ensures writer { result.now ≡ self.entry.inner.now }
     {
         self.inner
     }
 
+    /// Ends a text whose writing returned `answer`: writes out the buffer, unless the writer has
+    /// failed already. So if a layout fails, all that is before is written.
+    #[inline(always)]
+    pub(crate) fn finish(&mut self, answer: io::Result<()>) -> io::Result<()>
+        ensures bytes { Keeps (held W.contents S.start self.old)
+            (held W.contents S.start self.new) }
+        ensures all { OnOk result (left self.new ≡ []) }
+        ensures error { OnErr answer (IsErr result) }
+    {
+        match answer {
+            Ok(()) => self.write_out(),
+            Err(_) if self.has_failed => answer,
+            Err(_) => {
+                self.write_out()?;
+                answer
+            }
+        }
+    }
+
     /// Writes all bytes that are held, without a flush of the writer. An error is the writer's, or
     /// `WriteZero` where it accepted none.
     #[cold]
     #[inline(never)]
-    pub fn write_out(&mut self) -> io::Result<()>
+    fn write_out(&mut self) -> io::Result<()>
         ensures bytes { Keeps (held W.contents S.start self.old)
             (held W.contents S.start self.new) }
         ensures all { OnOk result (left self.new ≡ []) }
+        ensures empty { OnOk result (self.new.buffer.len ≡ 0) }
     {
-        while self.taken < self.bytes.len() {
-            let count = self.inner.write(&self.bytes[self.taken..])?;
+        // It stays so if the writer fails.
+        self.has_failed = true;
+        while self.taken < self.buffer.len() {
+            let buffer = &self.buffer;
+            let count = self.inner.write(&buffer.as_slice()[self.taken..])?;
             if count == 0 {
                 return Err(io::Error::from(ErrorKind::WriteZero));
             }
             self.taken += count;
         }
+        self.has_failed = false;
         self.taken = 0;
-        self.bytes.clear();
+        self.buffer.clear();
         Ok(())
     }
 
-    /// Writes all bytes, and then holds as many of `buf` as there is room for. Returns how many, or
-    /// `None` after an error, which is stored in the slot: an `io::Error` takes 88 bytes, which the
-    /// caller would reserve and clear even where there is room for all.
+    /// Writes all bytes, and then holds `buf`, or lets the writer take it if it is longer than the
+    /// buffer. Returns how many bytes were held or taken, or `None` after an error, which is stored
+    /// in the slot.
     #[cold]
     #[inline(never)]
     fn write_out_and_hold(&mut self, buf: &[u8]) -> Option<usize>
@@ -100,21 +132,27 @@ impl<'a, W: Write, S: Start> Buffered<'a, W, S> {
             self.error = Some(error);
             return None;
         }
-        let count = buf.len().min(self.bytes.capacity() - self.bytes.len());
-        self.hold(&buf[..count]);
-        Some(count)
+        if buf.len() <= self.buffer.free() {
+            self.hold(buf);
+            return Some(buf.len());
+        }
+        match self.inner.write(buf) {
+            Ok(count) => Some(count),
+            Err(error) => {
+                self.error = Some(error);
+                None
+            }
+        }
     }
 
     /// Holds bytes for which there is room.
     #[inline(always)]
     fn hold(&mut self, bytes: &[u8])
-        requires { vec_len self.old.bytes + length bytes.now ≤ vec_capacity self.old.bytes }
+        requires { self.old.buffer.len + length bytes.now ≤ 1024 }
         ensures { Appends (held W.contents S.start self.old)
             (held W.contents S.start self.new) bytes.now }
     {
-        let Ok(()) = self.bytes.extend_from_slice(bytes) else {
-            unreachable!()
-        };
+        self.buffer.add(bytes);
     }
 
     /// Takes the stored error. There is one after `write_out_and_hold` returned `None`.
@@ -132,15 +170,14 @@ impl<'a, W: Write, S: Start> Buffered<'a, W, S> {
 }
 
 impl<W: Write, S: Start> Write for Buffered<'_, W, S> {
-    ghost use Rattle.jzonfmt.specs.Buffered.{held};
+    ghost use Rattle.jzon_tree.specs.Private.Buffered.{held};
 
     ghost contents = { held W.contents S.start };
 
-    /// Holds the bytes if there is room for all of them. Otherwise writes out what is held, and
-    /// then holds as many of them as there is room for.
+    /// Holds the bytes if there is room for all of them. Otherwise writes out what is held first.
     #[inline(always)]
     fn write(&mut self, buf: &[u8]) -> io::Result<usize> {
-        if buf.len() <= self.bytes.capacity() - self.bytes.len() {
+        if buf.len() <= self.buffer.free() {
             self.hold(buf);
             return Ok(buf.len());
         }
@@ -156,20 +193,30 @@ impl<W: Write, S: Start> Write for Buffered<'_, W, S> {
     }
 }
 
-/// Where there is room, short strings, digits and short lines are added to the buffer at once.
+/// Where there is room, bytes, short strings, digits and short lines are added at once.
 impl<W: Write, S: Start> Outlet for Buffered<'_, W, S> {
     #[inline(always)]
+    fn put_byte(&mut self, byte: u8) -> bool {
+        self.buffer.put_byte(byte)
+    }
+
+    #[inline(always)]
     fn put_string(&mut self, string: &[u8]) -> bool {
-        push_short(&mut self.bytes, string)
+        self.buffer.put_string(string)
+    }
+
+    #[inline(always)]
+    fn put_key(&mut self, key: &[u8], wide: bool) -> bool {
+        self.buffer.put_key(key, wide)
     }
 
     #[inline(always)]
     fn put_number(&mut self, number: &Number) -> bool {
-        push_digits(&mut self.bytes, number)
+        self.buffer.put_number(number)
     }
 
     #[inline(always)]
     fn put_line(&mut self, spaces: u128) -> bool {
-        push_line(&mut self.bytes, spaces)
+        self.buffer.put_line(spaces)
     }
 }
