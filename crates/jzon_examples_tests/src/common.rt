@@ -2,17 +2,9 @@
 //! hardly any time. The cookbook quotes assertions, so its tests have some.
 
 use jzon::JsonValue;
-use std::alloc::AllocGlobal;
+pub use jzon_test_support::{Tested, Tester};
 use std::fmt::Debug;
 use std::process::Abort;
-use std::test::Fail;
-
-pub type Tested = std::result::Result<(), Fail>;
-
-/// The runtime of a test, which may abort it and gives its allocator.
-pub trait Tester: Abort + AllocGlobal {}
-
-impl<R: Abort + AllocGlobal> Tester for R {}
 
 /// It holds of this row.
 pub fn expect(rt: &impl Abort, row: &str, holds: bool) {

@@ -1,6 +1,6 @@
 //! Objects, and the references that they return.
 
-use super::*;
+use crate::common::*;
 use jzon::lent::{write_at, write_at_index};
 use jzon::object::{Key, Object};
 use jzon_test_support::keys_by_hash;

@@ -1,8 +1,8 @@
 //! Objects of many sizes. They are made past the counts at which an index begins, another run of it,
 //! the join of runs, and the search for repeated keys; or each is read, loses members, and is dropped.
 
-use super::changed::parse_strictly;
-use super::*;
+use crate::changed::parse_strictly;
+use crate::common::*;
 use jzon::IntoJson;
 use jzon::object::Object;
 use jzon_test_support::{keys_by_hash, object_text};

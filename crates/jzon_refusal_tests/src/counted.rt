@@ -1,7 +1,7 @@
 //! What calls request, hold and free where no allocation fails, at sizes that no test of failing
 //! allocations has.
 
-use super::*;
+use crate::common::*;
 use jzon::IntoJson;
 use jzon::codegen::{Compact, DumpGenerator, Pretty, write_json};
 use jzon::lent::{write_at, write_at_index, write_present};

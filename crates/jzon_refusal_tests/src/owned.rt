@@ -1,7 +1,7 @@
 //! Calls that are passed what owns memory: they drop it where they fail. And texts that are
 //! rejected inside containers: what was read of them is dropped.
 
-use super::*;
+use crate::common::*;
 use jzon::codegen::{DumpGenerator, Generator};
 use jzon::lent::{write_at, write_at_index, write_present};
 use jzon::object::Object;

@@ -1,7 +1,7 @@
 //! Calls that request no memory, on values of 70,000 entries or elements; and how much room copies
 //! and built objects hold.
 
-use super::*;
+use crate::common::*;
 use jzon::codegen::{
     DumpGenerator, Generator, Pretty, PrettyGenerator, PrettyWriterGenerator, WriterGenerator,
     write_json, write_object,

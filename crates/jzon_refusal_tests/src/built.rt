@@ -1,6 +1,6 @@
 //! Values that are made of others.
 
-use super::*;
+use crate::common::*;
 use jzon::IntoJson;
 use jzon::short::Short;
 use std::collections::{BTreeMap, HashMap};

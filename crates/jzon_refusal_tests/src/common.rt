@@ -1,91 +1,69 @@
-//! Calls that allocate, with each of their allocations failing in turn. Each run must free all that
-//! it allocates, the argument of a call that fails too.
+//! What the tests share: a call that is run with each of its allocations failing in turn. Each run
+//! must free all that it allocates, the argument of a call that fails too.
 
-/// The object of a map of this type, with a key and a value for each of these items.
-macro_rules! mapped {
-    ($map:ident, $alloc:ident, $item:ident in $items:expr, $key:expr, $value:expr) => {{
-        let mut map = $map::new($alloc);
-        for $item in $items {
-            map.insert($key?, $value?)?;
-        }
-        map.into_json($alloc)?
-    }};
-}
-
-mod built;
-mod changed;
-mod containers;
-mod counted;
-mod many_entries;
-mod objects;
-mod owned;
-mod requested_bytes;
-
-use jzon::{Error, JsonValue, Result, parse};
-use jzon_test_support::{RUNS_MAX, Refusals, rows};
-use std::alloc::Global;
-use std::process::Abort;
-use std::test::Fail;
-
-type Tested = std::result::Result<(), Fail>;
+pub use jzon::{Error, JsonValue, Result, parse};
+pub use jzon_test_support::{RUNS_MAX, Refusals, Tested, rows};
+pub use std::alloc::Global;
+pub use std::process::Abort;
+pub use std::test::Fail;
 
 /// A text with a key and a string that are too long to be kept inline.
-const LONG_DOCUMENT: &str =
+pub const LONG_DOCUMENT: &str =
     "{\"0123456789abcdef0123456789abcdef!\":[{\"b\":\"a text of more than thirty bytes\"},[true,{}]]}";
 
 /// A key of 40 bytes and a string of 31, each of which is allocated.
-const LONG_KEY: &str = "0123456789abcdef0123456789abcdef01234567";
+pub const LONG_KEY: &str = "0123456789abcdef0123456789abcdef01234567";
 
-const LONG_TEXT: &str = "abcdefghijklmnopqrstuvwxyz01234";
+pub const LONG_TEXT: &str = "abcdefghijklmnopqrstuvwxyz01234";
 
 /// An object of this key, with null.
-const KEYED: &str = "{\"0123456789abcdef0123456789abcdef01234567\":null}";
+pub const KEYED: &str = "{\"0123456789abcdef0123456789abcdef01234567\":null}";
 
 /// A call on a value. What it returns becomes the value.
-trait Call: Copy {
+pub trait Call: Copy {
     fn call(self, value: &mut JsonValue, alloc: Global) -> Result<()>;
 }
 
 /// A call, its name, the text of the value before it, the compact text after it, and the number of
 /// its allocations.
-type Row<C> = (C, &'static str, &'static str, &'static str, usize);
+pub type Row<C> = (C, &'static str, &'static str, &'static str, usize);
 
 /// What a call made becomes the value.
-fn set(value: &mut JsonValue, made: Result<JsonValue>) -> Result<()> {
+pub fn set(value: &mut JsonValue, made: Result<JsonValue>) -> Result<()> {
     *value = made?;
     Ok(())
 }
 
 /// The reference isn't used.
-fn borrow_at(value: &mut JsonValue, alloc: Global, key: &str) -> Result<()> {
+pub fn borrow_at(value: &mut JsonValue, alloc: Global, key: &str) -> Result<()> {
     value.at_mut(alloc, key)?;
     Ok(())
 }
 
-fn borrow_at_index(value: &mut JsonValue, alloc: Global, index: usize) -> Result<()> {
+pub fn borrow_at_index(value: &mut JsonValue, alloc: Global, index: usize) -> Result<()> {
     value.at_index_mut(alloc, index)?;
     Ok(())
 }
 
 /// It holds of this row. To prove an assertion takes seconds, and a call of this hardly any time.
-fn expect(rt: &impl Abort, row: &str, holds: bool) {
+pub fn expect(rt: &impl Abort, row: &str, holds: bool) {
     assert!(rt; holds, "{row}");
 }
 
 /// The value dumps this text.
-fn expect_dump(rt: &impl Abort, alloc: Global, value: &JsonValue, text: &str) -> Tested {
+pub fn expect_dump(rt: &impl Abort, alloc: Global, value: &JsonValue, text: &str) -> Tested {
     let dump = value.dump(alloc)?;
     expect(rt, text, dump.as_str() == text);
     Ok(())
 }
 
 /// What a call is named, the compact text of its value after it, and the number of its allocations.
-type Expected<'a> = (&'a str, &'a str, usize);
+pub type Expected<'a> = (&'a str, &'a str, usize);
 
 /// One run of the call, on a copy of `before`, which has no room to spare. Whether an allocation
 /// failed: then the call returned `OutOfMemory`, and its value is as it was. Otherwise it succeeded,
 /// and its value dumps what is expected.
-fn run<C: Call>(
+pub fn run<C: Call>(
     rt: &impl Abort,
     alloc: Global,
     call: C,
@@ -111,7 +89,7 @@ fn run<C: Call>(
 
 /// Runs the call with its first allocation failing, then with its second, and so on, until a run
 /// has no failed allocation. Each run frees all that it allocates.
-fn fail_each_on<C: Call>(
+pub fn fail_each_on<C: Call>(
     rt: &(impl Eprint + Abort),
     alloc: Global,
     call: C,
@@ -132,7 +110,7 @@ fn fail_each_on<C: Call>(
 }
 
 /// The same for each row of a table, on the value of the row's text.
-fn fail_each<C: Call>(rt: &(impl Eprint + Abort), alloc: Global, rows: &[Row<C>]) -> Tested {
+pub fn fail_each<C: Call>(rt: &(impl Eprint + Abort), alloc: Global, rows: &[Row<C>]) -> Tested {
     for row in rows {
         let before = parse(alloc, row.2)?;
         fail_each_on(rt, alloc, row.0, (row.1, row.3, row.4), &before)?;
@@ -141,7 +119,7 @@ fn fail_each<C: Call>(rt: &(impl Eprint + Abort), alloc: Global, rows: &[Row<C>]
 }
 
 /// A call fails because of the value's kind. If an allocation failed, this is reported instead.
-fn passed_over(answer: Result<()>) -> Result<()> {
+pub fn passed_over(answer: Result<()>) -> Result<()> {
     match answer {
         Err(Error::WrongType(_)) => Ok(()),
         Err(error) => Err(error),

@@ -1,6 +1,6 @@
 //! What is read, copied and changed.
 
-use super::*;
+use crate::common::*;
 use jzon::{Reading, parse_as};
 use jzon_test_support::{DOCUMENT, DUMP};
 
@@ -22,7 +22,7 @@ enum Changed {
     TakeString,
 }
 
-pub(super) fn parse_strictly(alloc: Global, text: &str) -> Result<JsonValue> {
+pub fn parse_strictly(alloc: Global, text: &str) -> Result<JsonValue> {
     match Reading::new(true, 512) {
         Some(reading) => parse_as(alloc, text, &reading),
         None => Ok(JsonValue::Null),

@@ -1,7 +1,7 @@
 //! How much memory containers take: those after a long one, many of one length, small ones, and those
 //! of a key that is repeated again and again.
 
-use super::*;
+use crate::common::*;
 use jzon::object::Object;
 use jzon_test_support::{joined, keys_by_hash, object_text};
 
