@@ -17,7 +17,6 @@ mod filter;
 pub mod hash;
 mod iter;
 mod known;
-mod many;
 mod retain;
 pub mod runs;
 
@@ -220,14 +219,15 @@ impl Keys {
         put_each(alloc, keys, values)
     }
 
-    /// These keys, with their index if they are more than `LINEAR_MAX`. `known` is what is known of
-    /// exactly them, so they are distinct.
-    pub fn from_known(alloc: Global, keys: Vec<Key>, known: KnownKeys) -> Result<Keys, AllocError>
+    /// These keys, with the index that is known of exactly them, if there is one.
+    pub fn from_known(alloc: Global, keys: Vec<Key>, known: KnownKeys) -> Keys
         requires { Knows keys.items known }
-        ensures { IfOk result (λ k. k ≡ keys.items) }
+        ensures { result ≡ keys.items }
     {
-        let index = known.into_index(alloc, keys.as_slice())?;
-        Ok(Keys { keys, index })
+        Keys {
+            keys,
+            index: known.into_index(alloc),
+        }
     }
 
     /// The keys, without their index.

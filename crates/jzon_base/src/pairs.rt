@@ -132,7 +132,7 @@ impl<V> Pairs<V> {
         if keys.is_empty() {
             return Ok(Pairs::new(alloc));
         }
-        let keys = Keys::from_known(alloc, keys, known)?;
+        let keys = Keys::from_known(alloc, keys, known);
         Pairs::boxed(alloc, keys, values)
     }
 

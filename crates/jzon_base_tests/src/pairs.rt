@@ -357,7 +357,7 @@ fn expect_numbered(rt: &impl Abort, pairs: &Pairs<usize>, names: &[String]) {
     }
 }
 
-/// Few keys of a filter, and more, all of which the second filter may know.
+/// Few keys with a filter, and more with an index.
 #[test]
 fn knows_the_keys_of_one_hash(rt: HostRuntime) -> Result<(), Fail> {
     for count in [9, 32, 33, 300] {
@@ -368,7 +368,7 @@ fn knows_the_keys_of_one_hash(rt: HostRuntime) -> Result<(), Fail> {
     Ok(())
 }
 
-/// A filter that grows three times.
+/// An index of several runs.
 #[test]
 fn knows_many_keys(rt: HostRuntime) -> Result<(), Fail> {
     let names = digits_below(rt.alloc(), 3_000)?;

@@ -182,17 +182,16 @@ const GROWN: &[GrownRow] = rows! {
 /// The parser has all keys on one stack and all values on another, each with room for eight that
 /// doubles; the object takes both blocks and a box. Each `[1]` is a block, and the first one opens
 /// the stack of containers. Up to 32 keys have no index; more have one in two blocks. A strict
-/// reading has a box, a filter and index entries from the 33rd key on. The entries double at the
-/// 33rd and the 65th key, and the filter grows at the 65th; the object takes over the entries, with
-/// a block for their run.
+/// reading makes it at the 33rd key, in a box and with room for 64 entries, which doubles at the
+/// 65th key; the object takes it.
 const SIZES: &[GrownRow] = rows! {
     (Grown::Parse("[1]"), "parse, retain and drop of 1 key", 1, 0, 5)
     (Grown::Parse("[1]"), "parse, retain and drop of 11 keys", 11, 1, 17)
     (Grown::Parse("[1]"), "parse, retain and drop of 32 keys", 32, 22, 40)
     (Grown::Parse("[1]"), "parse, retain and drop of 33 keys", 33, 23, 44)
     (Grown::Parse("[1]"), "parse, retain and drop of 65 keys", 65, 55, 78)
-    (Grown::ParseStrictly("null"), "strict parse_as, retain and drop of 70 keys", 70, 60, 17)
-    (Grown::ParseStrictly("[1]"), "strict parse_as of 70 arrays, retain and drop", 70, 60, 89)
+    (Grown::ParseStrictly("null"), "strict parse_as, retain and drop of 70 keys", 70, 60, 14)
+    (Grown::ParseStrictly("[1]"), "strict parse_as of 70 arrays, retain and drop", 70, 60, 86)
     (Grown::Parse("null"), "parse, retain and drop of 300 keys", 300, 290, 16)
 };
 

@@ -7,7 +7,10 @@ ghost use Rattle.jzon_base.specs.Private.Filter.{bit_of, HasBit, HaveBits};
 use super::few::has_name;
 use crate::key::Key;
 
-/// 256 bits. Each key sets one of them, and equal keys set the same.
+/// How many bits the filter has, in words of 64.
+const BITS: usize = 256;
+
+/// `BITS` bits. Each key sets one of them, and equal keys set the same.
 #[derive(Drop)]
 pub struct Filter {
     words: [u64; 4],
@@ -29,7 +32,7 @@ fn bit_of(name: &str) -> usize
     }
     let last = usize::from(bytes[len - 1]);
     let before = usize::from(bytes[len.saturating_sub(2)]);
-    (len % 16 * 16 + usize::from(bytes[0]) + last * 2 + before * 21) % 256
+    (len % 16 * 16 + usize::from(bytes[0]) + last * 2 + before * 21) % BITS
 }
 
 impl Filter {

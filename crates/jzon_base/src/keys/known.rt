@@ -1,12 +1,10 @@
 //! Whether a name repeats a key before it, for keys that are in a vector of the caller. A strict
 //! reading asks this before it adds a key.
 //!
-//! Up to 32 keys have a filter, and more have another one, which grows: keys are compared only if a
-//! filter says that one may repeat. For the keys of usual texts it is seldom wrong. Each time the
-//! filter of many keys says so, all hashes are scanned; `scans_left` counts this down from 64, and
-//! begins anew when the filter grows. At 0 the keys get an index, as in `Keys`: so n keys take
-//! about n (log n)^2 comparisons, whatever the keys are.
-ghost use Rattle.std.specs.Prelude.{◌≡◌, ◌++◌, ◌∷◌, [], true, false, is_some, IfOk, OnErr};
+//! Up to `LINEAR_MAX` keys have a filter: keys are compared only if it says that one may repeat.
+//! More have an index, as in `Keys`, which becomes the object's index: so n keys take about
+//! n (log n)^2 comparisons, whatever the keys are.
+ghost use Rattle.std.specs.Prelude.{◌≡◌, ◌++◌, ◌∷◌, [], true, false, is_some, IfOk, OnErr, List, ℕ};
 ghost use Rattle.std.specs.List.{position};
 ghost use Rattle.std.specs.Str.{bytes_eq};
 ghost use Rattle.jzon_base.specs.Private.Handed.{IsTable};
@@ -14,24 +12,19 @@ ghost use Rattle.jzon_base.specs.Private.Known.{Knows};
 
 use super::few::LINEAR_MAX;
 use super::filter::Filter;
-use super::many::ManyKeys;
 use super::runs::Runs;
 use super::{add_entry, search};
 use crate::key::Key;
 use std::alloc::{AllocError, Global};
 
-/// What is known of the distinct keys of a vector of the caller. In clauses, `Knows keys known`
-/// says that `known` is known of exactly these keys, and `IsTable keys index` that these keys are
-/// distinct and the index is empty or has the entries of exactly them.
+/// What is known of the distinct keys of a vector of the caller.
 ///
-/// What is known of many keys is in a box, so that `KnownKeys` is small.
+/// The index is in a box, so that `KnownKeys` is small.
 #[derive(Drop)]
 pub enum KnownKeys {
     /// The filter of few keys.
     Few(Filter),
-    /// The filter and the index entries of more keys.
-    Many(Box<ManyKeys>),
-    /// The index of keys of which the filter was wrong too often.
+    /// The index of more.
     Indexed(Box<Runs>),
 }
 
@@ -91,36 +84,23 @@ impl KnownKeys {
                 if keys.len() < LINEAR_MAX {
                     return Ok(filter.has_or_adds(keys, name));
                 }
-                let mut many = Box::new(alloc, ManyKeys::of(alloc, keys)?)?;
-                let known = many.has_or_adds(alloc, keys, name)?;
-                *self = KnownKeys::Many(many);
+                // Empty here: `add_entry` fills it with the entries of all keys.
+                let mut index = Box::new(alloc, Runs::new(alloc))?;
+                let known = has_or_indexes(alloc, keys, &mut index, name)?;
+                *self = KnownKeys::Indexed(index);
                 Ok(known)
-            }
-            KnownKeys::Many(many) => {
-                if many.scans_left == 0 {
-                    // The filter was wrong too often: from here on an index finds the keys. It is
-                    // empty here; `add_entry` fills it with the entries of all keys.
-                    let mut index = Box::new(alloc, Runs::new(alloc))?;
-                    let known = has_or_indexes(alloc, keys, &mut index, name)?;
-                    *self = KnownKeys::Indexed(index);
-                    return Ok(known);
-                }
-                many.has_or_adds(alloc, keys, name)
             }
             KnownKeys::Indexed(index) => has_or_indexes(alloc, keys, index, name),
         }
     }
 
-    /// The index of these keys, which is empty if they have only the filter of few keys. The error
-    /// is a failed allocation.
-    pub(super) fn into_index(self, alloc: Global, keys: &[Key]) -> Result<Runs, AllocError>
-        requires { Knows keys.now self }
-        ensures { IfOk result (IsTable keys.now) }
+    /// The index of the keys, which is empty if they have only the filter.
+    pub(super) fn into_index(self, alloc: Global) -> Runs
+        ensures { (ks : List (List ℕ)) → Knows ks self → IsTable ks result }
     {
         match self {
-            KnownKeys::Few(_) => Ok(Runs::new(alloc)),
-            KnownKeys::Many(many) => Box::into_inner(many).into_index(alloc, keys),
-            KnownKeys::Indexed(index) => Ok(Box::into_inner(index)),
+            KnownKeys::Few(_) => Runs::new(alloc),
+            KnownKeys::Indexed(index) => Box::into_inner(index),
         }
     }
 }

@@ -8,6 +8,6 @@ pub returns : goal.returns
 returns g c =
     let ks = c.args.keys.items in
     let vs = c.args.values.items in
-    IfOk-weaker c.boxed.result (λ p. p ≡ zip c.in_ok-keys.keys vs) (λ p. p ≡ put_each (zip ks vs))
-    (λ p e. e ∙ ap (λ ls. zip ls vs) c.in_ok-keys.ensures
+    IfOk-weaker c.boxed.result (λ p. p ≡ zip c.from_known-keys.result vs) (λ p. p ≡ put_each (zip ks vs))
+    (λ p e. e ∙ ap (λ ls. zip ls vs) c.from_known-keys.ensures
     ∙ sym (put_each-zip ks vs c.requires.even (IsDistinct-known ks c.args.known c.requires.known))) c.boxed.ensures
