@@ -32,6 +32,12 @@ const SHOWN: &[(&str, &str)] = &[
     ),
 ];
 
+/// What `{:?}` shows of an object: its entries as a map, by the derived forms of each type.
+const DEBUGGED: (&str, &str) = (
+    "{\"a\":[true,null],\"b\":\"c\"}",
+    "Object(Object { pairs: {\"a\": Array([Boolean(true), Null]), \"b\": Short(\"c\")} })",
+);
+
 fn expect_shown(rt: &impl Tester, value: &JsonValue, text: &str) {
     expect(rt, text, is_text(display(rt.alloc(), value), text));
 }
@@ -44,6 +50,12 @@ fn shows(rt: HostRuntime) -> Tested {
     }
     expect_shown(&rt, &JsonValue::Number(NAN), "nan");
     expect_shown(&rt, &array![alloc; JsonValue::Number(NAN)], "[null]");
+    let value = parse(alloc, DEBUGGED.0)?;
+    expect(
+        &rt,
+        DEBUGGED.1,
+        format!(in alloc; "{value:?}")?.as_str() == DEBUGGED.1,
+    );
     Ok(())
 }
 

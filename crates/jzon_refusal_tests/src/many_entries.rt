@@ -5,7 +5,7 @@ use crate::changed::parse_strictly;
 use crate::common::*;
 use jzon::IntoJson;
 use jzon::object::Object;
-use jzon_test_support::{keys_by_hash, object_text};
+use jzon_test_support::{keys_by_hash, keys_of_one_hash, object_text};
 use std::collections::{BTreeMap, HashMap};
 
 /// How an object of keys is made, or read from a text that has this value at each key.
@@ -22,6 +22,7 @@ enum Grown {
     HashMap,
     Parse(&'static str),
     ParseStrictly(&'static str),
+    ParseOneHash,
 }
 
 /// `count` keys, of which about twenty are too long to be stored inline.
@@ -124,6 +125,10 @@ impl Grown {
                 let text = object_text(alloc, keys.as_slice())?.replace(alloc, "null", value)?;
                 Ok(vec![in alloc; text]?)
             }
+            Grown::ParseOneHash => {
+                let keys = keys_of_one_hash(alloc, count as usize)?;
+                Ok(vec![in alloc; object_text(alloc, keys.as_slice())?]?)
+            }
             _ => keys_of(alloc, count),
         }
     }
@@ -132,7 +137,7 @@ impl Grown {
     fn call(self, alloc: Global, keys: &[String]) -> Result<usize> {
         match self {
             Grown::Parse(_) => reduced_one(alloc, keys, false),
-            Grown::ParseStrictly(_) => reduced_one(alloc, keys, true),
+            Grown::ParseStrictly(_) | Grown::ParseOneHash => reduced_one(alloc, keys, true),
             Grown::Map => map(alloc, keys),
             Grown::HashMap => hash_map(alloc, keys),
             _ => Ok(self.make(alloc, keys)?.len()),
@@ -183,7 +188,8 @@ const GROWN: &[GrownRow] = rows! {
 /// doubles; the object takes both blocks and a box. Each `[1]` is a block, and the first one opens
 /// the stack of containers. Up to 32 keys have no index; more have one in two blocks. A strict
 /// reading makes it at the 33rd key, in a box and with room for 64 entries, which doubles at the
-/// 65th key; the object takes it.
+/// 65th key; the object takes it. Of the keys of one hash, which have 11 to 80 bytes, 48 have a
+/// block each, and the buffer for escapes has 11 bytes, then 22, 44 and 88.
 const SIZES: &[GrownRow] = rows! {
     (Grown::Parse("[1]"), "parse, retain and drop of 1 key", 1, 0, 5)
     (Grown::Parse("[1]"), "parse, retain and drop of 11 keys", 11, 1, 17)
@@ -192,6 +198,7 @@ const SIZES: &[GrownRow] = rows! {
     (Grown::Parse("[1]"), "parse, retain and drop of 65 keys", 65, 55, 78)
     (Grown::ParseStrictly("null"), "strict parse_as, retain and drop of 70 keys", 70, 60, 14)
     (Grown::ParseStrictly("[1]"), "strict parse_as of 70 arrays, retain and drop", 70, 60, 86)
+    (Grown::ParseOneHash, "strict parse_as of 70 keys of one hash", 70, 70, 66)
     (Grown::Parse("null"), "parse, retain and drop of 300 keys", 300, 290, 16)
 };
 

@@ -445,6 +445,7 @@ enum Held {
     Key,
     KeyClone,
     Dump,
+    Parsed,
 }
 
 /// Five nulls in an array with room for a thousand.
@@ -503,7 +504,10 @@ impl Held {
                 text.push_str(LONG_TEXT)?;
                 JsonValue::String(text).clone(alloc)
             }
-            Held::Key => Ok(JsonValue::String(Key::new(alloc, LONG_KEY)?.into_string(alloc)?)),
+            Held::Key => {
+                let text = joined(alloc, &[("k", 4096)])?;
+                Ok(JsonValue::String(Key::new(alloc, text.as_str())?.into_string(alloc)?))
+            }
             Held::KeyClone => {
                 let copy = Key::new(alloc, LONG_KEY)?.clone(alloc)?;
                 Ok(JsonValue::String(copy.into_string(alloc)?))
@@ -511,6 +515,16 @@ impl Held {
             Held::Dump => {
                 let text = JsonValue::String(joined(alloc, &[("plain", 40000)])?);
                 Ok(JsonValue::String(text.dump(alloc)?))
+            }
+            Held::Parsed => {
+                let pieces = &[
+                    ("[[0", 1),
+                    (",0", 2999),
+                    (",[0", 1),
+                    (",0", 19_999),
+                    ("]],1]", 1),
+                ];
+                parse(alloc, joined(alloc, pieces)?.as_str())
             }
         }
     }
@@ -529,10 +543,16 @@ const HELD: &[(Held, &str, usize)] = &[
     (Held::List, "into_json of a list", 5 * 48 + 24),
     (Held::Text, "into_json of a long string", 31 + 24),
     (Held::TextClone, "clone of a string with room", 31 + 24),
-    (Held::Key, "Key::new of a long key", 40 + 24),
+    (Held::Key, "Key::new of a long key", 4096 + 24),
     (Held::KeyClone, "Key::clone of a long key", 40 + 24),
     // A text that grows may have as much room again, and a block of this size ends with its page.
     (Held::Dump, "dump of a long string", 2 * 200_002 + 4096),
+    // Arrays of 20,000, 3,001 and 2 values, of which two blocks end with their pages.
+    (
+        Held::Parsed,
+        "parse of an array in which a longer one ended",
+        48 * 23_003 + 2 * 4096 + 24,
+    ),
 ];
 
 #[test]
