@@ -2,7 +2,7 @@
 use Rattle.std.specs.Prelude.{ℕ, ◌+◌, ◌-◌, ◌*◌, List, [], ◌∷◌, ◌++◌, Bool, not, ◌&&◌, if◌then◌else◌, Option, Some}
 use Rattle.std.specs.Prelude.{None, ℤ, pos, neg_ℤ, encode_utf8_all}
 use Rattle.jzon_base.specs.Decimal.{Decimal}
-use Rattle.jzon_base.specs.Digits.{digits_number, read_number}
+use Rattle.jzon_base.specs.Digits.{digits_number, number_read}
 pub use Rattle.jzon_base.specs.Escapes.{unescaped}
 use Rattle.jzon_base.specs.PairList.{put_each}
 use Rattle.jzon_tree.specs.Value.{Value, null, boolean, text, number, array, object, no_values, Values, value, no_pairs}
@@ -26,7 +26,7 @@ written_exponent (Some e) = signed_exponent e.sign (digits_number e.digits)
 
 -- the number that a numeral means
 abbrev pub number_of : Numeral → Decimal
-number_of n = read_number (not n.negative) n.whole n.fraction (written_exponent n.exponent)
+number_of n = number_read (not n.negative) n.whole n.fraction (written_exponent n.exponent)
 
 -- ---- strings
 

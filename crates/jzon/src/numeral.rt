@@ -1,12 +1,29 @@
-//! Reads numbers (RFC 8259, section 6; docs/RULES.md, "Numbers"): finds the digits before the
-//! point, after it and of the exponent, and has `digits` make the number of them.
+//! Reads numbers (RFC 8259, section 6; docs/RULES.md, "Numbers").
+//!
+//! In clauses, `from r bytes p i` is the outcome of the automaton (docs/ARCHITECTURE.md) that
+//! starts in the state `p` at byte `i`, under the reading `r`. `Reports bytes e o` says that the
+//! stop `e` becomes the error of the outcome `o`.
+//!
+//! States: `numeral_after_first fs negative d` is after the first digit `d` of a number, inside the
+//! containers `fs`; `numeral fs negative (after_letter ws ds l)` is after the letter `l` of an
+//! exponent, with the digits `ws` before the point and `ds` after it; `after_value fs v` is after
+//! the value `v`. From the first of these states, `LeadsTo source start end p` leads to the state
+//! `p` at byte `end`; `MissesDigit source start end` to the fault that a digit is missing at `end`;
+//! and `HasTooMany source start` to the fault that there are too many digits. `Leads` says of a
+//! result that an `Ok` leads to the state after the number, and that an `Err` reports the fault.
+//!
+//! `AreFewEnough` says that no limit on digits is exceeded, and `IsFirstTooMany whole fraction f`
+//! that the digit `f` is the first to exceed one. `digits_number ds` is the number that the digits
+//! `ds` spell, and `fold add_digit n ds` the number `n` with these digits after its own. The
+//! definition `number_read` is the number that a sign, the digits before and after the point and an
+//! exponent mean.
 
 ghost use Rattle.std.specs.Prelude.{◌≡◌, ℕ, pos, List, [], ◌∷◌, ◌<◌, ◌≤◌, ◌+◌, ◌%◌, ◌^◌, ◌++◌, length, drop, chars, not, Bool, true, false, ◌==◌, ◌↔◌, IsTrue, IfOk, slice_index, if◌then◌else◌};
 ghost use Rattle.std.specs.Char.{is_ascii_digit};
 ghost use Rattle.std.specs.List.{All, fold, take_while};
 ghost use Rattle.std.specs.Str.{IsCharBoundary};
 ghost use Rattle.jzon_base.specs.Decimal.{signed};
-ghost use Rattle.jzon_base.specs.Digits.{IsDigit, add_digit, digits_number, read_number};
+ghost use Rattle.jzon_base.specs.Digits.{IsDigit, add_digit, digits_number, number_read};
 ghost use Rattle.jzon_base.specs.DigitLimits.{AreFewEnough, IsFirstTooMany};
 ghost use Rattle.jzon_base.specs.declared.digits.DigitFault.{DigitFault};
 ghost use Rattle.jzon_tree.specs.Value.{number};
@@ -79,7 +96,7 @@ fn spelling_at(source: &str, start: usize) -> Spelling<'_>
     ensures end { (start < result.end) × (result.end ≤ length source.now)
         × IsCharBoundary source.now result.end }
     ensures number { AreFewEnough result.whole.now result.fraction.now → result.is_missing ≡ false
-        → LeadsTo source.now start result.end (λ fs negative. after_value fs (number (read_number
+        → LeadsTo source.now start result.end (λ fs negative. after_value fs (number (number_read
         (not negative) result.whole.now result.fraction.now
         (signed result.positive_exponent (digits_number result.exponent.now))))) }
     ensures missing { AreFewEnough result.whole.now result.fraction.now → result.is_missing ≡ true
@@ -120,7 +137,7 @@ fn magnitude_at(source: &str, start: usize) -> Spelling<'_>
     ensures number { AreFewEnough result.whole.now result.fraction.now → result.is_missing ≡ false
         → (result.end < length source.now → is_exponent_letter (slice_index source.now result.end)
         ≡ false)
-        → LeadsTo source.now start result.end (λ fs negative. after_value fs (number (read_number
+        → LeadsTo source.now start result.end (λ fs negative. after_value fs (number (number_read
         (not negative) result.whole.now result.fraction.now (pos 0)))) }
     ensures missing { AreFewEnough result.whole.now result.fraction.now → result.is_missing ≡ true
         → MissesDigit source.now start result.end }
@@ -211,7 +228,7 @@ fn exponent_after(source: &str, start: usize) -> Exponent<'_>
         (r : Reading) (fs : Frames) (negative : Bool) (ws ds : List ℕ)
         (l : ℕ)
         → from r source.now (numeral fs negative (after_letter ws ds l)) start
-        ≡ from r source.now (after_value fs (number (read_number (not negative) ws ds
+        ≡ from r source.now (after_value fs (number (number_read (not negative) ws ds
         (signed result.is_positive (digits_number result.digits.now))))) result.end }
     ensures missing { length result.digits.now ≡ 0 →
         (r : Reading) (fs : Frames) (negative : Bool) (ws ds : List ℕ)

@@ -58,6 +58,6 @@ read_exponent whole fraction written = clamp ((pos (dropped whole fraction) -ℤ
     written)
 
 -- the number of a text, from its sign, its digits before and after the point, and its written exponent
-abbrev pub read_number : Bool → List ℕ → List ℕ → ℤ → Decimal
-read_number positive whole fraction written =
+abbrev pub number_read : Bool → List ℕ → List ℕ → ℤ → Decimal
+number_read positive whole fraction written =
     parts positive (digits_number (kept (whole ++ fraction))) (read_exponent whole fraction written)

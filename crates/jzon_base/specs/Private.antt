@@ -1,10 +1,10 @@
 -- Private definitions: how the code relates to those that public clauses cite. Of them the public clauses of `jzon` cite
 -- only `value_at` and `Knows`.
 pub mod Filter
-pub mod Handed
 pub mod Hash
 pub mod Keys
 pub mod Known
 pub mod NumberFields
 pub mod PlainBytes
+pub mod Runs
 pub mod Same

@@ -1,14 +1,21 @@
 //! The digits of a number in a text, and the number that they mean (RFC 8259, section 6;
-//! docs/RULES.md, "What digits mean" and "Digit limits"). Take the digits before the point and
-//! those after it as one list. Its longest prefix that spells a number below 2^64 is kept: it is
-//! the mantissa. The digits after this prefix are dropped. `scan` reads eight digits at once; only
-//! numbers of more than `ALWAYS_KEPT` digits are read once more, digit by digit.
+//! docs/RULES.md, "What digits mean" and "Digit limits").
+//!
+//! Take the digits before the point and those after it as one list. Its longest prefix that spells
+//! a number below 2^64 is kept: it is the mantissa. The digits after this prefix are dropped.
+//!
+//! In clauses, `digits_number ds` is the number that the digits `ds` spell, and `fold add_digit n
+//! ds` the number `n` with these digits after its own. `kept ds` are the kept digits, `dropped` is
+//! how many digits before the point are dropped, and `kept_fraction` how many after it are kept.
+//! `AreFewEnough` says that these two are at most 32767 and 32768, and `IsFirstTooMany` that a
+//! `DigitFault` is the first digit beyond. `signed positive n` is `n` or `-n`, `clamp` the nearest
+//! `i16`, and `number_read` the number with the kept digits and the clamped exponent.
 
 ghost use Rattle.std.specs.Prelude.{◌≡◌, ℕ, pos, ◌+◌, ◌%◌, ◌<◌, ◌≤◌, ◌^◌, ◌-ℤ◌, ◌+ℤ◌, ◌++◌, length, take, min, IfErr, OkIff};
 ghost use Rattle.std.specs.Char.{is_ascii_digit};
 ghost use Rattle.std.specs.List.{fold, prefix_len, All};
 ghost use Rattle.jzon_base.specs.Decimal.{signed};
-ghost use Rattle.jzon_base.specs.Digits.{IsDigit, add_digit, digits_number, kept, dropped, kept_fraction, clamp, read_number};
+ghost use Rattle.jzon_base.specs.Digits.{IsDigit, add_digit, digits_number, kept, dropped, kept_fraction, clamp, number_read};
 ghost use Rattle.jzon_base.specs.DigitLimits.{AreFewEnough, IsFirstTooMany, KeepsLongestPrefix};
 
 use crate::number::Number;
@@ -55,7 +62,7 @@ pub fn read_scanned(
     requires number { number ≡ digits_number (whole.now ++ fraction.now) % 2 ^ 64 }
     requires exponent { All IsDigit exponent.now }
     ensures number { OkIff result (AreFewEnough whole.now fraction.now)
-        (read_number positive whole.now fraction.now
+        (number_read positive whole.now fraction.now
         (signed positive_exponent (digits_number exponent.now))) }
     ensures fault { IfErr result (IsFirstTooMany whole.now fraction.now) }
 {

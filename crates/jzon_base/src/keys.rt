@@ -8,7 +8,7 @@ ghost use Rattle.std.specs.List.{position, zip, IsDistinct};
 ghost use Rattle.std.specs.Result.{result_ok};
 ghost use Rattle.std.specs.Str.{bytes_eq};
 ghost use Rattle.jzon_base.specs.PairList.{put_each};
-ghost use Rattle.jzon_base.specs.Private.Handed.{entries_of, IsIndexed, IsSpotFor, IsTable};
+ghost use Rattle.jzon_base.specs.Private.Runs.{all_entries, IsIndexed, IsSpotFor, IsTable};
 ghost use Rattle.jzon_base.specs.Private.Known.{Knows};
 
 mod entries;
@@ -63,7 +63,7 @@ struct Spot {
 fn search(keys: &[Key], index: &Runs, name: &str) -> Result<usize, Option<Spot>>
     requires { IsTable keys.now index.now }
     ensures position { result_ok result ≡ position (λ k. bytes_eq k name.now) keys.now }
-    ensures spot { IfErr result (λ spot. MatchOption spot (length (entries_of index.now) ≡ 0)
+    ensures spot { IfErr result (λ spot. MatchOption spot (length (all_entries index.now) ≡ 0)
         (λ s. IsSpotFor keys.now index.now name.now s.hash s.at)) }
 {
     if index.is_empty() {
@@ -104,7 +104,7 @@ fn add_entry(
 ) -> Result<(), AllocError>
     requires table { IsTable keys.now index.old }
     requires missing { position (λ k. bytes_eq k name.now) keys.now ≡ None }
-    requires spot { MatchOption spot (length (entries_of index.old) ≡ 0)
+    requires spot { MatchOption spot (length (all_entries index.old) ≡ 0)
         (λ s. IsSpotFor keys.now index.old name.now s.hash s.at) }
     ensures ok { OnOk result (IsIndexed (keys.now ++ name.now ∷ []) index.new) }
     ensures err { OnErr result (IsIndexed keys.now index.new) }
@@ -253,11 +253,12 @@ impl Keys {
         search(self.keys.as_slice(), &self.index, name).ok()
     }
 
-    pub fn get(&self, index: usize) -> &str
-        requires { index < length self.now }
-        ensures { slice_get self.now index ≡ Some result.now }
+    /// The key at a position.
+    pub fn get(&self, position: usize) -> &str
+        requires { position < length self.now }
+        ensures { slice_get self.now position ≡ Some result.now }
     {
-        self.keys[index].as_str()
+        self.keys[position].as_str()
     }
 
     /// The position of a key. A missing key is put last, and the result is `None`: then `values`
@@ -294,12 +295,12 @@ impl Keys {
     }
 
     /// Removes the key at a position. The others keep their order. Takes no memory.
-    pub fn remove(&mut self, index: usize)
-        requires { index < length self.old }
-        ensures { self.new ≡ remove self.old index }
+    pub fn remove(&mut self, position: usize)
+        requires { position < length self.old }
+        ensures { self.new ≡ remove self.old position }
     {
-        drop(self.keys.remove(index));
-        self.index.cut(index);
+        drop(self.keys.remove(position));
+        self.index.cut(position);
     }
 
     /// Removes all keys. Their room, and that of the index's first run, is kept.

@@ -4,7 +4,7 @@ ghost use Rattle.std.specs.Prelude.{◌≡◌, ◌*◌, ◌^◌, ◌<◌, ◌≤
 ghost use Rattle.std.specs.Cmp.{partial_equiv_from_equiv};
 ghost use Rattle.jzon_base.specs.Decimal.{parts, parts_of, is_nan, is_zero, is_positive, negated, same, scaled, Decimal, StripsTo};
 ghost use Rattle.jzon_base.specs.NumberText.{decimal_text};
-ghost use Rattle.jzon_base.specs.Private.NumberFields.{value_at, HasNoParts, fields_of};
+ghost use Rattle.jzon_base.specs.Private.NumberFields.{value_at, HasNoParts, number_fields};
 ghost use Rattle.jzon_base.specs.Private.Same.{same_equiv};
 
 mod fixed_point;
@@ -45,7 +45,7 @@ impl Model for Number {
     ghost invariant = { λ n. HasNoParts n.category n.mantissa n.exponent
         × (n.narrow_gap ≡ 0) × (n.wide_gap ≡ 0) };
 
-    ghost inverse = { fields_of };
+    ghost inverse = { number_fields };
 }
 
 /// Not a number. No text means it, and in a value it is printed as `null`. It equals only itself.

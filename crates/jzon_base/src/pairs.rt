@@ -212,12 +212,13 @@ impl<V> Pairs<V> {
         }
     }
 
-    pub fn get_at(&self, index: usize) -> (&str, &V)
-        requires { index < length self.now }
-        ensures { slice_get self.now index ≡ Some (result.0.now, result.1.now) }
+    /// The entry at a position.
+    pub fn get_at(&self, position: usize) -> (&str, &V)
+        requires { position < length self.now }
+        ensures { slice_get self.now position ≡ Some (result.0.now, result.1.now) }
     {
         match &self.entries {
-            Some(entries) => (entries.keys().get(index), &entries.values[index]),
+            Some(entries) => (entries.keys().get(position), &entries.values[position]),
             None => unreachable!(),
         }
     }
@@ -235,15 +236,15 @@ impl<V> Pairs<V> {
         }
     }
 
-    /// The value at a position, to be written.
-    pub fn value_mut(&mut self, index: usize) -> &mut V
-        requires { index < length self.old }
+    /// The value at a position, to be written: nothing else changes.
+    pub fn value_mut(&mut self, position: usize) -> &mut V
+        requires { position < length self.old }
         ensures* writes_back { sem 𝓛 (Lends (the_row V.row) V.row self.entry result
-            (set_value self.old index)) }
-        ensures value { slice_get (values_of self.old) index ≡ Some result.now }
+            (set_value self.old position)) }
+        ensures value { slice_get (values_of self.old) position ≡ Some result.now }
     {
         match self.entries_mut() {
-            Some(entries) => entries.value_mut(index),
+            Some(entries) => entries.value_mut(position),
             None => unreachable!(),
         }
     }
@@ -263,8 +264,8 @@ impl<V> Pairs<V> {
             self.old) }
         ensures value { option_copied_mut result ≡ find name.now self.old }
     {
-        let index = self.position(name)?;
-        Some(self.value_mut(index))
+        let position = self.position(name)?;
+        Some(self.value_mut(position))
     }
 
     /// Puts the first entry, into a new box: there is none yet. The box is allocated before the
@@ -331,8 +332,8 @@ impl<V> Pairs<V> {
             ≡ find name.now (with_default name.now value self.old)) }
         ensures present { OnErr result (find name.now self.old ≡ None) }
     {
-        let index = self.place(alloc, name, value)?;
-        Ok(self.value_mut(index))
+        let position = self.place(alloc, name, value)?;
+        Ok(self.value_mut(position))
     }
 
     /// Replaces the last value. Changes nothing if there is no entry.
@@ -349,13 +350,13 @@ impl<V> Pairs<V> {
 
     /// Removes the entry at a position, and returns its value. The others keep their order. Takes
     /// no memory.
-    fn remove_at(&mut self, index: usize) -> V
-        requires { index < length self.old }
-        ensures value { slice_get (values_of self.old) index ≡ Some result }
-        ensures after { self.new ≡ remove self.old index }
+    fn remove_at(&mut self, position: usize) -> V
+        requires { position < length self.old }
+        ensures value { slice_get (values_of self.old) position ≡ Some result }
+        ensures after { self.new ≡ remove self.old position }
     {
         match &mut self.entries {
-            Some(entries) => entries.remove_at(index),
+            Some(entries) => entries.remove_at(position),
             None => unreachable!(),
         }
     }
@@ -367,8 +368,8 @@ impl<V> Pairs<V> {
         ensures value { result ≡ find name.now self.old }
         ensures after { self.new ≡ cut name.now self.old }
     {
-        let index = self.position(name)?;
-        Some(self.remove_at(index))
+        let position = self.position(name)?;
+        Some(self.remove_at(position))
     }
 
     /// Keeps the entries for which `keep` returns `true`, in their order. `keep` is called once for

@@ -18,7 +18,7 @@ impl Model for Sevens {
     ghost use Rattle.std.specs.Prelude.{List, ℕ, map};
     ghost use Rattle.std.specs.List.{IsDistinct};
     ghost use Rattle.std.specs.Str.{bytes_eq};
-    ghost use Rattle.jzon_base.specs.Private.Handed.{IsIndexOf};
+    ghost use Rattle.jzon_base.specs.Private.Runs.{IsIndexOf};
 
     ghost Value = { List (List ℕ) };
 

@@ -5,7 +5,7 @@ use Rattle.jzon_base.proofs.Common.{◌∷◌, ◌++◌, length, drop, get_or, p
 use Rattle.jzon_base.proofs.Common.{true≢false, length-append, chars, IsUtf8, IsTrue, is_ascii_digit, IsCharBoundary}
 use Rattle.jzon_base.proofs.Common.{All, take_while, ne_eqb, nat_tests, All-nil, All-cons, IsCharBoundary-before_ascii}
 use Rattle.jzon_base.proofs.Common.{IsCharBoundary-after_ascii}
-use Rattle.jzon_base.specs.Digits.{IsDigit, dropped, kept_fraction, read_number}
+use Rattle.jzon_base.specs.Digits.{IsDigit, dropped, kept_fraction, number_read}
 use Rattle.jzon_base.specs.DigitLimits.{AreFewEnough, IsFirstTooMany}
 use Rattle.jzon_base.specs.declared.digits.DigitFault.{DigitFault}
 use Rattle.jzon_base.specs.declared.digits.DigitFault.TheVariants.{Whole, Fraction}
@@ -86,7 +86,7 @@ pub record ReadsMagnitude (bs : List ℕ) (i : ℕ) (ws ds : List ℕ) (e : ℕ)
   pub to_letter : AreFewEnough ws ds → missing ≡ false → e < length bs → IsTrue (is_exponent_letter (get_or bs e 0))
       → LeadsTo bs i (e + 1) (λ fs negative. numeral fs negative (after_letter ws ds (get_or bs e 0)))
   pub to_end : AreFewEnough ws ds → missing ≡ false → (e < length bs → is_exponent_letter (get_or bs e 0) ≡ false)
-      → LeadsTo bs i e (λ fs negative. after_value fs (value.number (read_number (not negative) ws ds (pos 0))))
+      → LeadsTo bs i e (λ fs negative. after_value fs (value.number (number_read (not negative) ws ds (pos 0))))
   pub stops : AreFewEnough ws ds → missing ≡ true → MissesDigit bs i e
   pub refuses : (f : DigitFault) → IsFirstTooMany ws ds f → HasTooMany bs i
 

@@ -6,7 +6,7 @@ use Rattle.jzon_base.proofs.Common.{nat_tests, drop-drop, length-drop, All-nil, 
 use Rattle.jzon_base.proofs.Common.{IsUtf8-drop, IsCharBoundary-from_drop, IsCharBoundary-after_ascii}
 use Rattle.std.proofs.lemmas.List.Folds.{length-prefix_len}
 use Rattle.jzon_base.specs.Decimal.{signed}
-use Rattle.jzon_base.specs.Digits.{IsDigit, digits_number, read_number}
+use Rattle.jzon_base.specs.Digits.{IsDigit, digits_number, number_read}
 use Rattle.jzon_tree.specs.Value as value
 use Rattle.jzon.specs.Reading.{Reading}
 use Rattle.jzon.specs.Grammar.{Sign, plus, minus, AreDigits, IsDigits}
@@ -105,7 +105,7 @@ pub record ReadsExponent (bs : List ℕ) (i : ℕ) (positive : Bool) (xs : List 
   pub number : 0 < length xs → (r : Reading) (fs : Frames) (negative : Bool) (ws ds : List ℕ) (l : ℕ)
       → from r bs (numeral fs negative (after_letter ws ds l)) i
       ≡ from r bs
-      (after_value fs (value.number (read_number (not negative) ws ds (signed positive (digits_number xs))))) e
+      (after_value fs (value.number (number_read (not negative) ws ds (signed positive (digits_number xs))))) e
   pub missing : length xs ≡ 0 → (r : Reading) (fs : Frames) (negative : Bool) (ws ds : List ℕ) (l : ℕ)
       → from r bs (numeral fs negative (after_letter ws ds l)) i ≡ fault_here (chars (drop e bs))
 
@@ -167,7 +167,7 @@ reads_signed bs i xs s b positive u at lt here ascii step sign e =
       all = k.all;
       number = λ some r fs negative ws ds l. to_sign r fs negative ws ds l
           ∙ signed_to_end r fs negative ws ds l s xs rest (some_digits xs k.digits some) k.next
-          ∙ ap (λ z. outcome r rest (after_value fs (value.number (read_number (not negative) ws ds z))))
+          ∙ ap (λ z. outcome r rest (after_value fs (value.number (number_read (not negative) ws ds z))))
           (sym (sign (digits_number xs)));
       missing = λ none r fs negative ws ds l. to_sign r fs negative ws ds l
           ∙ ap (λ cs. outcome r cs (numeral fs negative (signed_exponent ws ds l s))) (no_digits xs rest none)

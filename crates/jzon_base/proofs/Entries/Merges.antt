@@ -6,7 +6,7 @@ use Rattle.jzon_base.proofs.Common.{take-set-le, drop-set-lt, length-swap, posit
 use Rattle.jzon_base.proofs.Common.{position, swap, zip, IsDistinct, bytes_eq}
 use Rattle.std.proofs.lemmas.List.Edits.{swap_is}
 use Rattle.jzon_base.specs.PairList.{keys_of, put, put_each}
-use Rattle.jzon_base.specs.Private.Handed.{entries_of, IsIndexed, IsTable}
+use Rattle.jzon_base.specs.Private.Runs.{all_entries, IsIndexed, IsTable}
 use Rattle.jzon_base.proofs.Entries.PairPositions.{zip-put_placed, zip-put_missing}
 use Rattle.jzon_base.proofs.Entries.PutEach.{put_each-distinct, put_each-zip, IsDistinct-put}
 use Rattle.jzon_base.proofs.KeyIndex.Tables.{IsTable-none, IsTable-push}
@@ -94,7 +94,7 @@ module _ {V : Type 0} where
     pub same : put_each (zip (take kept ks ++ drop at ks) (take kept vs ++ drop at vs)) ≡ put_each ps
 
   pub merging_none : (ks : List (List ℕ)) (vs : List V) (rs : List (List (ℕ × ℕ))) → length vs ≡ length ks
-      → length (entries_of rs) ≡ 0 → IsMerging (zip ks vs) ks vs rs 0 0
+      → length (all_entries rs) ≡ 0 → IsMerging (zip ks vs) ks vs rs 0 0
   merging_none ks vs rs even none = record {
     counted = omega (arith, length-zip ks vs);
     even = even;

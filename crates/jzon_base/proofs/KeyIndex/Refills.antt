@@ -7,7 +7,7 @@ use Rattle.jzon_base.proofs.Common.{IsSorted, All-nil, All-push, All-same}
 use Rattle.std.proofs.Common.{take_all}
 use Rattle.std.proofs.lemmas.List.Sorted.{IsPermutation-append}
 use Rattle.std.proofs.Math.ListN.{length-map}
-use Rattle.jzon_base.specs.Private.Handed.{entries_of, AreSorted, IsIndexOf, IsIndexed}
+use Rattle.jzon_base.specs.Private.Runs.{all_entries, AreSorted, IsIndexOf, IsIndexed}
 use Rattle.jzon_base.specs.Private.Hash.{hash_of}
 use Rattle.jzon_base.specs.Private.Keys.{entry_cmp, hashed_from}
 use Rattle.jzon_base.proofs.KeyIndex.Indexes.{hashed_from-more, hashed_from-append, hashed_from-none}
@@ -82,11 +82,11 @@ AreRefilled-all ks rs n i le before =
 
 -- an index with entries has room for fewer keys
 pub room_for_fewer : (ks ls : List (List ℕ)) (rs : List (List (ℕ × ℕ))) → IsIndexed ks rs → length ls ≤ length ks
-    → length (entries_of rs) ≢ 0 → length ls ≤ length (entries_of rs)
+    → length (all_entries rs) ≢ 0 → length ls ≤ length (all_entries rs)
 room_for_fewer ks ls rs indexed fewer some = omega (
   arith,
   fewer,
-  length_permutation _ (entries_of rs) (indexed.index some).whole,
+  length_permutation _ (all_entries rs) (indexed.index some).whole,
   length-numbered 0 (map hash_of ks),
   length-map ks hash_of,
 )

@@ -28,8 +28,8 @@ use Rattle.std.proofs.lemmas.Cmp.{nat_cmp_total, nat_list_cmp_total, on_total, t
 use Rattle.std.specs.Cmp.{IsTotalOrder, IsStrictWeakOrder}
 use Rattle.std.specs.List.Sorted.{IsNonDecreasingBy, IsPartitionPoint}
 use Rattle.std.specs.Ordering.{ordering_then, ordering_index, is_eq}
-use Rattle.jzon_base.specs.Private.Handed.{numbered, entries_of, AreHanded, AreSorted, IsBegun, IsIndexOf, IsPlace}
-use Rattle.jzon_base.specs.Private.Handed.{IsSpot}
+use Rattle.jzon_base.specs.Private.Runs.{numbered, all_entries, AreHanded, AreSorted, IsBegun, IsIndexOf, IsPlace}
+use Rattle.jzon_base.specs.Private.Runs.{IsSpot}
 use Rattle.jzon_base.specs.Private.Keys.{compare_with, entry_cmp, lowered}
 use Rattle.jzon_base.proofs.KeyIndex.FlatRuns.{flat_add, flat_cut, flat_last, taken_more}
 use Rattle.jzon_base.proofs.KeyIndex.Permutations.{IsPermutation-filter}
@@ -117,13 +117,13 @@ module _ (ks : List (List ℕ)) (h : ℕ) (name : List ℕ) where
 
   -- none of the first i runs has the entry, and it belongs there in the last of them
   pub record IsSearched (rs : List (List (ℕ × ℕ))) (i at : ℕ) : Type 0 where
-    pub none : list_any is_it (entries_of (take i rs)) ≡ false
+    pub none : list_any is_it (all_entries (take i rs)) ≡ false
     pub spot : 0 < i → IsPlace ks h name (get_or rs (i - 1) []) at
 
   pub searched_more : (rs : List (List (ℕ × ℕ))) (i at b : ℕ) (r : List (ℕ × ℕ)) → i < length rs → r ≡ get_or rs i r
       → IsSearched rs i at → IsPlace ks h name r b → IsSearched rs (i + 1) b
   searched_more rs i at b r l is before place = record {
-    none = ap (list_any is_it) (taken_more rs i r l is) ∙ list_any-append is_it (entries_of (take i rs)) r
+    none = ap (list_any is_it) (taken_more rs i r l is) ∙ list_any-append is_it (all_entries (take i rs)) r
         ∙ (λ j. before.none j || none_here r b place j);
     spot = λ _.
         let e : i + 1 - 1 ≡ i = omega arith in
@@ -133,10 +133,10 @@ module _ (ks : List (List ℕ)) (h : ℕ) (name : List ℕ) where
 
 -- the entry of a run is among those of all runs
 pub in_runs : (rs : List (List (ℕ × ℕ))) (i : ℕ) (r : List (ℕ × ℕ)) (p : ℕ × ℕ) → i < length rs → r ≡ get_or rs i r
-    → Contains r p → Contains (entries_of rs) p
+    → Contains r p → Contains (all_entries rs) p
 in_runs [] i r p l is has = absurd (omega arith)
-in_runs (u ∷ rs) zero r p l is has = Contains-append_left u (entries_of rs) p (subst (λ v. Contains v p) is has)
-in_runs (u ∷ rs) (suc i) r p l is has = Contains-append_right u (entries_of rs) p
+in_runs (u ∷ rs) zero r p l is has = Contains-append_left u (all_entries rs) p (subst (λ v. Contains v p) is has)
+in_runs (u ∷ rs) (suc i) r p l is has = Contains-append_right u (all_entries rs) p
     (in_runs rs i r p (omega arith) is has)
 
 -- ---- each hash with its position
@@ -165,23 +165,23 @@ All-places n (h ∷ hs) =
 
 -- each entry has the position of a key
 pub places : (hs : List ℕ) (ks : List (List ℕ)) (rs : List (List (ℕ × ℕ))) → IsIndexOf hs ks rs
-    → All (λ p. p.1 < length ks) (entries_of rs)
+    → All (λ p. p.1 < length ks) (all_entries rs)
 places hs ks rs index =
     All-weaker (λ (p : ℕ × ℕ). p.1 < 0 + length hs) (λ (p : ℕ × ℕ). p.1 < length ks)
-    (λ p l. omega (arith, index.even)) (entries_of rs)
-    (All-permutation (λ (p : ℕ × ℕ). p.1 < 0 + length hs) (numbered 0 hs) (entries_of rs) index.whole (All-places 0 hs))
+    (λ p l. omega (arith, index.even)) (all_entries rs)
+    (All-permutation (λ (p : ℕ × ℕ). p.1 < 0 + length hs) (numbered 0 hs) (all_entries rs) index.whole (All-places 0 hs))
 
 -- ---- a search in all runs
 
 -- the position that the index entries give is that of the key of this name
 pub found_place : (hs : List ℕ) (ks : List (List ℕ)) (rs : List (List (ℕ × ℕ))) (h : ℕ) (name : List ℕ)
     (o : Result ℕ ℕ) → IsIndexOf hs ks rs → AreHanded hs ks h name → IsDistinct bytes_eq ks
-    → IfOk o (λ p. Contains (entries_of rs) (h, p) × (get_or ks p [] ≡ name))
-    → IfErr o (λ _. list_any (is_it ks h name) (entries_of rs) ≡ false)
+    → IfOk o (λ p. Contains (all_entries rs) (h, p) × (get_or ks p [] ≡ name))
+    → IfErr o (λ _. list_any (is_it ks h name) (all_entries rs) ≡ false)
     → result_ok o ≡ position (λ k. bytes_eq k name) ks
 found_place hs ks rs h name (Ok p) index handed distinct here none =
     sym (only_place name ks p distinct
-    (All-contains (λ (q : ℕ × ℕ). q.1 < length ks) (entries_of rs) (h, p) (places hs ks rs index) here.0)
+    (All-contains (λ (q : ℕ × ℕ). q.1 < length ks) (all_entries rs) (h, p) (places hs ks rs index) here.0)
     ((bytes_eq-Decides (get_or ks p []) name).1 here.1))
 found_place hs ks rs h name (Err at) index handed distinct here none =
     sym (position-none (λ k. bytes_eq k name) ks [] (λ i l. elim (cases_Bool (bytes_eq (get_or ks i []) name)) [
@@ -195,7 +195,7 @@ found_place hs ks rs h name (Err at) index handed distinct here none =
           ap (is_it ks h name) e ∙ (λ k. is_eq (name_cmp (h, text k) (h, name)))
           ∙ ap is_eq (tied_itself name_total (h, name)) in
           absurd (false≢true (sym none
-          ∙ sym (list_any-IsPermutation (is_it ks h name) (numbered 0 hs) (entries_of rs) index.whole)
+          ∙ sym (list_any-IsPermutation (is_it ks h name) (numbered 0 hs) (all_entries rs) index.whole)
           ∙ list_any_at (is_it ks h name) (numbered 0 hs) i (0, 0) (omega (arith, length-numbered 0 hs)) it)))
     ]))
 
@@ -248,14 +248,14 @@ module _ {X : Type 0} (lt : X → X → Bool) where
         ]
       ]
 
-each_run : (P : ℕ × ℕ → Type 0) (rs : List (List (ℕ × ℕ))) → All P (entries_of rs) → All (λ r. All P r) rs
+each_run : (P : ℕ × ℕ → Type 0) (rs : List (List (ℕ × ℕ))) → All P (all_entries rs) → All (λ r. All P r) rs
 each_run P [] all = All-nil (λ r. All P r)
 each_run P (r ∷ rs) all =
-    let front : take (length r) (r ++ entries_of rs) ≡ r = take-append_seam r (entries_of rs) in
+    let front : take (length r) (r ++ all_entries rs) ≡ r = take-append_seam r (all_entries rs) in
     All-cons (λ r. All P r) r rs
-    (All-same P r (take (length r) (r ++ entries_of rs)) (sym front) (All-take P (length r) (r ++ entries_of rs) all))
-    (each_run P rs (All-same P (entries_of rs) (drop (length r) (r ++ entries_of rs))
-    (sym (drop-append_seam r (entries_of rs))) (All-drop P (length r) (r ++ entries_of rs) all)))
+    (All-same P r (take (length r) (r ++ all_entries rs)) (sym front) (All-take P (length r) (r ++ all_entries rs) all))
+    (each_run P rs (All-same P (all_entries rs) (drop (length r) (r ++ all_entries rs))
+    (sym (drop-append_seam r (all_entries rs))) (All-drop P (length r) (r ++ all_entries rs) all)))
 
 module _ (ks : List (List ℕ)) (name : List ℕ) where
   -- the key of an entry is read in the longer list too
@@ -269,7 +269,7 @@ module _ (ks : List (List ℕ)) (name : List ℕ) where
       (named-push (get_or r (k + 1) d) (within (k + 1) d l)) (named-push (get_or r k d) (within k d (omega arith)))
       ∙ up k d low l
 
-  all-push : (rs : List (List (ℕ × ℕ))) → All (λ p. p.1 < length ks) (entries_of rs) → AreSorted ks rs
+  all-push : (rs : List (List (ℕ × ℕ))) → All (λ p. p.1 < length ks) (all_entries rs) → AreSorted ks rs
       → AreSorted (ks ++ name ∷ []) rs
   all-push rs within up i d l = sorted-push (get_or rs i d) (each_run (λ p. p.1 < length ks) rs within i d l) (up i d l)
 
@@ -293,14 +293,14 @@ module _ (ks : List (List ℕ)) (name : List ℕ) where
 
 -- the entries of one more key, which are in sorted runs
 index-more : (hs : List ℕ) (ks : List (List ℕ)) (rs ss : List (List (ℕ × ℕ))) (h : ℕ) (name : List ℕ)
-    → IsIndexOf hs ks rs → IsPermutation ((h, length ks) ∷ entries_of rs) (entries_of ss)
+    → IsIndexOf hs ks rs → IsPermutation ((h, length ks) ∷ all_entries rs) (all_entries ss)
     → AreSorted (ks ++ name ∷ []) ss → IsIndexOf (hs ++ h ∷ []) (ks ++ name ∷ []) ss
 index-more hs ks rs ss h name index added up =
     let e : numbered 0 (hs ++ h ∷ []) ≡ numbered 0 hs ++ (h, length ks) ∷ [] = numbered-push 0 hs h
     ∙ ap (λ (m : ℕ). numbered 0 hs ++ (h, m) ∷ []) (zero-add (length hs) ∙ index.even) in
     record {
       even = omega (arith, index.even, length_push hs h, length_push ks name);
-      whole = rw e (IsPermutation-push_more (numbered 0 hs) (entries_of rs) (entries_of ss) (h, length ks) index.whole
+      whole = rw e (IsPermutation-push_more (numbered 0 hs) (all_entries rs) (all_entries ss) (h, length ks) index.whole
           added);
       sorted = up;
     }
@@ -323,18 +323,18 @@ added_last hs ks rs h at n name r index spot last is =
 
 -- the runs from some one on are joined
 pub begun-joined : (ks : List (List ℕ)) (rs us : List (List (ℕ × ℕ))) (from : ℕ) (j : List (ℕ × ℕ)) (p : ℕ × ℕ)
-    → us ≡ drop from rs → IsPermutation (entries_of us) j → (AreSorted ks us → IsSorted (entry_cmp ks) j)
+    → us ≡ drop from rs → IsPermutation (all_entries us) j → (AreSorted ks us → IsSorted (entry_cmp ks) j)
     → IsBegun ks rs ((take from rs ++ j ∷ []) ++ (p ∷ []) ∷ []) p
 begun-joined ks rs us from j p rest whole up =
-    let parts : entries_of rs ≡ entries_of (take from rs) ++ entries_of us =
-    ap entries_of (sym (take-append-drop from rs))
+    let parts : all_entries rs ≡ all_entries (take from rs) ++ all_entries us =
+    ap all_entries (sym (take-append-drop from rs))
     ∙ flat_map-append (λ (r : List (ℕ × ℕ)). r) (take from rs) (drop from rs)
-    ∙ ap (λ vs. entries_of (take from rs) ++ entries_of vs) (sym rest) in
+    ∙ ap (λ vs. all_entries (take from rs) ++ all_entries vs) (sym rest) in
     record {
       before = take from rs ++ j ∷ [];
       split = refl;
       whole = rw (parts, flat_last (take from rs) j)
-          (IsPermutation-append_right (entries_of (take from rs)) (entries_of us) j whole);
+          (IsPermutation-append_right (all_entries (take from rs)) (all_entries us) j whole);
       sorted = λ sorted. All-push (IsSorted (entry_cmp ks)) (take from rs) j
           (All-take (IsSorted (entry_cmp ks)) from rs sorted)
           (up (rw rest (All-drop (IsSorted (entry_cmp ks)) from rs sorted)));
@@ -345,7 +345,7 @@ pub begun-alone : (ks : List (List ℕ)) (rs : List (List (ℕ × ℕ))) (p : �
 begun-alone ks rs p = record {
   before = rs;
   split = refl;
-  whole = IsPermutation-refl (entries_of rs);
+  whole = IsPermutation-refl (all_entries rs);
   sorted = λ sorted. sorted;
 }
 
@@ -356,11 +356,11 @@ added_run hs ks rs ss h name index begun =
     let p : ℕ × ℕ = (h, length ks) in
     let us = begun.before in
     let one : IsSorted (entry_cmp (ks ++ name ∷ [])) (p ∷ []) = λ k d low l. absurd (omega arith) in
-    let within : All (λ p. p.1 < length ks) (entries_of us) = All-permutation (λ p. p.1 < length ks) (entries_of rs)
-    (entries_of us) begun.whole (places hs ks rs index) in
+    let within : All (λ p. p.1 < length ks) (all_entries us) = All-permutation (λ p. p.1 < length ks) (all_entries rs)
+    (all_entries us) begun.whole (places hs ks rs index) in
     rw begun.split (index-more hs ks rs (us ++ (p ∷ []) ∷ []) h name index
-    (rw (flat_last us (p ∷ [])) (IsPermutation-trans _ _ _ (IsPermutation-cons p (entries_of rs) (entries_of us)
-    begun.whole) (IsPermutation-sym _ _ (IsPermutation-to_front (entries_of us) p))))
+    (rw (flat_last us (p ∷ [])) (IsPermutation-trans _ _ _ (IsPermutation-cons p (all_entries rs) (all_entries us)
+    begun.whole) (IsPermutation-sym _ _ (IsPermutation-to_front (all_entries us) p))))
     (All-push (IsSorted (entry_cmp (ks ++ name ∷ []))) us (p ∷ []) (all-push ks name us within
     (begun.sorted index.sorted)) one))
 
@@ -423,7 +423,7 @@ module _ (ks : List (List ℕ)) (i : ℕ) (l : i < length ks) where
         even = omega (arith, index.even, length-remove hs i m, length-remove ks i l);
         whole = rw (← numbered-remove hs 0 i i (omega arith) m, flat_cut i rs)
             (IsPermutation-map (lowered i) _ _
-            (IsPermutation-filter (is_other i) (numbered 0 hs) (entries_of rs) index.whole));
+            (IsPermutation-filter (is_other i) (numbered 0 hs) (all_entries rs) index.whole));
         sorted = All-map (IsSorted (entry_cmp (remove ks i))) (λ r. map (lowered i) (filter (is_other i) r)) rs
             (All-weaker (IsSorted (entry_cmp ks))
             (λ r. IsSorted (entry_cmp (remove ks i)) (map (lowered i) (filter (is_other i) r))) sorted-cut rs

@@ -4,7 +4,7 @@ use Rattle.jzon_base.proofs.Common.{filter, None, refl, sym, ap, ◌∙◌, subs
 use Rattle.jzon_base.proofs.Common.{All-cons, IsPermutation-refl, bytes_eq-Decides, position, remove, IsDistinct}
 use Rattle.jzon_base.proofs.Common.{IsPermutation, IsSorted, bytes_eq}
 use Rattle.std.proofs.Math.ListN.{length-map}
-use Rattle.jzon_base.specs.Private.Handed.{numbered, entries_of, AreHanded, IsIndexOf, IsIndexed, IsTable}
+use Rattle.jzon_base.specs.Private.Runs.{numbered, all_entries, AreHanded, IsIndexOf, IsIndexed, IsTable}
 use Rattle.jzon_base.specs.Private.Hash.{hash_of}
 use Rattle.jzon_base.specs.Private.Keys.{entry_cmp, hashed_from, lowered}
 use Rattle.jzon_base.proofs.KeyIndex.FlatRuns.{flat_cut}
@@ -74,10 +74,10 @@ module _ (hash : List ℕ → ℕ) where
 -- ---- adding and removing keys
 
 -- runs without entries are the index of no keys
-pub IsIndexed-empty : (ks : List (List ℕ)) (rs : List (List (ℕ × ℕ))) → length (entries_of rs) ≡ 0 → IsIndexed ks rs
+pub IsIndexed-empty : (ks : List (List ℕ)) (rs : List (List (ℕ × ℕ))) → length (all_entries rs) ≡ 0 → IsIndexed ks rs
 IsIndexed-empty ks rs none = record { index = λ some. absurd (some none) }
 
-pub IsTable-none : (rs : List (List (ℕ × ℕ))) → length (entries_of rs) ≡ 0 → IsTable [] rs
+pub IsTable-none : (rs : List (List (ℕ × ℕ))) → length (all_entries rs) ≡ 0 → IsTable [] rs
 unfolding IsDistinct
 IsTable-none rs none = record { indexed = IsIndexed-empty [] rs none; distinct = tt }
 
@@ -97,7 +97,7 @@ pub IsTable-remove : (ks : List (List ℕ)) (rs : List (List (ℕ × ℕ))) (i :
 IsTable-remove ks rs i l table = record {
   indexed = record {
     index = λ some. IsIndexOf-cut hash_of ks rs i l (table.indexed.index (λ none.
-        some (ap length (flat_cut i rs) ∙ fewer_none i (entries_of rs) none)));
+        some (ap length (flat_cut i rs) ∙ fewer_none i (all_entries rs) none)));
   };
   distinct = IsDistinct-remove ks i l table.distinct;
 }

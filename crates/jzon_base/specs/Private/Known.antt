@@ -5,7 +5,7 @@ use Rattle.std.specs.Str.{bytes_eq}
 use Rattle.jzon_base.specs.declared.keys.known.KnownKeys.{KnownKeys}
 use Rattle.jzon_base.specs.declared.keys.known.KnownKeys.TheVariants.{Few, Indexed}
 use Rattle.jzon_base.specs.Private.Filter.{HaveBits}
-use Rattle.jzon_base.specs.Private.Handed.{IsTable}
+use Rattle.jzon_base.specs.Private.Runs.{IsTable}
 
 -- exactly these keys are known: few are distinct, and the bit of each is set in the filter; more have an index
 abbrev pub Knows : List (List ℕ) → KnownKeys → Type 0

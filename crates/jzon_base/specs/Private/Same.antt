@@ -1,4 +1,4 @@
--- `same` is an equivalence: two decimals are the same if and only if their keys are equal. (These are proofs; they are
+-- `same` is an equivalence: two decimals are the same if and only if their classes are equal. (These are proofs; they are
 -- here because the laws of `PartialEq` and `Eq` cite them.)
 use Rattle.std.specs.Prelude.{◌≡◌, ℕ, zero, suc, ℤ, ◌<◌, ◌^◌, ◌*◌, Bool, true, false, ◌&&◌, ◌||◌, Option, None, Some, refl}
 use Rattle.std.specs.Prelude.{nat_eq}
@@ -24,23 +24,23 @@ scaled-pos m e h = one-le-mul h (one-le-pow (shifted e) 10 (lit≤ tt))
 
 pub ruleset zero_rules = (scaled-zero, scaled-pos)
 
--- one key for each class of equal decimals: for NaN, for the zeros, and else a sign and an exact decimal
-abbrev Key : Type 0
-Key = Option (Option (Bool × ℕ))
+-- the classes of equal decimals: NaN, the zeros, and else a sign and an exact decimal
+abbrev Class : Type 0
+Class = Option (Option (Bool × ℕ))
 
-abbrev key : Decimal → Key
-key nan = None
-key (parts s zero e) = Some None
-key (parts s (suc m) e) = Some (Some (s, scaled (suc m) e))
+abbrev class_of : Decimal → Class
+class_of nan = None
+class_of (parts s zero e) = Some None
+class_of (parts s (suc m) e) = Some (Some (s, scaled (suc m) e))
 
 abbrev alike : Bool × ℕ → Bool × ℕ → Bool
 alike x y = beq x.0 y.0 && nat_eq x.1 y.1
 
-abbrev same_key : Key → Key → Bool
-same_key = option_eq (option_eq alike)
+abbrev same_class : Class → Class → Bool
+same_class = option_eq (option_eq alike)
 
-same_key_equiv : IsEquivalence same_key
-same_key_equiv = options_equiv (options_equiv (and_equiv (on_equiv (λ (x : Bool × ℕ). x.0) bool_eq_equiv)
+same_class_equiv : IsEquivalence same_class
+same_class_equiv = options_equiv (options_equiv (and_equiv (on_equiv (λ (x : Bool × ℕ). x.0) bool_eq_equiv)
     (on_equiv (λ (x : Bool × ℕ). x.1) nat_eq_equiv)))
 
 -- a number above 0 isn't 0
@@ -64,20 +64,20 @@ apart-zero s t m e f = and-false (beq s t) (nat_eq (scaled (suc m) e) (scaled 0 
     (nat_eq_equiv.symm (scaled (suc m) e) (scaled 0 f)
     ∙ apart (scaled 0 f) (scaled (suc m) e) (scaled-zero 0 f refl) (scaled-pos (suc m) e (zero-lt-suc m)))
 
-same-by-key : (x y : Decimal) → same x y ≡ same_key (key x) (key y)
-same-by-key nan nan = refl
-same-by-key nan (parts t zero f) = refl
-same-by-key nan (parts t (suc n) f) = refl
-same-by-key (parts s zero e) nan = refl
-same-by-key (parts s (suc m) e) nan = refl
-same-by-key (parts s zero e) (parts t zero f) = refl
-same-by-key (parts s zero e) (parts t (suc n) f) =
+same-by-class : (x y : Decimal) → same x y ≡ same_class (class_of x) (class_of y)
+same-by-class nan nan = refl
+same-by-class nan (parts t zero f) = refl
+same-by-class nan (parts t (suc n) f) = refl
+same-by-class (parts s zero e) nan = refl
+same-by-class (parts s (suc m) e) nan = refl
+same-by-class (parts s zero e) (parts t zero f) = refl
+same-by-class (parts s zero e) (parts t (suc n) f) =
     ap (λ z. z || (beq s t && nat_eq (scaled 0 e) (scaled (suc n) f))) (not_zero n) ∙ zero-apart s t e n f
-same-by-key (parts s (suc m) e) (parts t zero f) =
+same-by-class (parts s (suc m) e) (parts t zero f) =
     ap (λ z. (z && true) || (beq s t && nat_eq (scaled (suc m) e) (scaled 0 f))) (not_zero m) ∙ apart-zero s t m e f
-same-by-key (parts s (suc m) e) (parts t (suc n) f) =
+same-by-class (parts s (suc m) e) (parts t (suc n) f) =
     ap (λ z. (z && nat_eq (suc n) 0) || (beq s t && nat_eq (scaled (suc m) e) (scaled (suc n) f))) (not_zero m)
 
 -- `same` is an equivalence
 pub same_equiv : IsEquivalence same
-same_equiv = subst IsEquivalence (λ i x y. sym (same-by-key x y) i) (on_equiv key same_key_equiv)
+same_equiv = subst IsEquivalence (λ i x y. sym (same-by-class x y) i) (on_equiv class_of same_class_equiv)

@@ -7,7 +7,7 @@
 ghost use Rattle.std.specs.Prelude.{◌≡◌, ◌++◌, ◌∷◌, [], true, false, is_some, IfOk, OnErr, List, ℕ};
 ghost use Rattle.std.specs.List.{position};
 ghost use Rattle.std.specs.Str.{bytes_eq};
-ghost use Rattle.jzon_base.specs.Private.Handed.{IsTable};
+ghost use Rattle.jzon_base.specs.Private.Runs.{IsTable};
 ghost use Rattle.jzon_base.specs.Private.Known.{Knows};
 
 use super::few::LINEAR_MAX;

@@ -36,14 +36,14 @@ impl<V> Contents<V> {
         &self.keys
     }
 
-    /// As `Pairs::value_mut`.
-    pub fn value_mut(&mut self, index: usize) -> &mut V
-        requires { index < length self.old }
+    /// The value at a position, to be written: nothing else changes.
+    pub fn value_mut(&mut self, position: usize) -> &mut V
+        requires { position < length self.old }
         ensures* writes_back { sem 𝓛 (Lends (the_row V.row) V.row self.entry result
-            (set_value self.old index)) }
-        ensures value { slice_get (values_of self.old) index ≡ Some result.now }
+            (set_value self.old position)) }
+        ensures value { slice_get (values_of self.old) position ≡ Some result.now }
     {
-        &mut self.values[index]
+        &mut self.values[position]
     }
 
     /// As `Pairs::insert`.
@@ -59,7 +59,7 @@ impl<V> Contents<V> {
         // `put` returns the position of a key that is there. Else it puts the key, and makes room
         // for its value.
         match self.keys.put(alloc, &mut self.values, name)? {
-            Some(index) => self.values[index] = value,
+            Some(position) => self.values[position] = value,
             None => self.values.push_reserved(value),
         }
         Ok(())
@@ -79,22 +79,23 @@ impl<V> Contents<V> {
         // `put` returns the position of a key that is there. Else it puts the key, and makes room
         // for its value.
         match self.keys.put(alloc, &mut self.values, name)? {
-            Some(index) => Ok(index),
+            Some(position) => Ok(position),
             None => {
-                let index = self.values.len();
+                let position = self.values.len();
                 self.values.push_reserved(value);
-                Ok(index)
+                Ok(position)
             }
         }
     }
 
-    /// As `Pairs::remove_at`.
-    pub fn remove_at(&mut self, index: usize) -> V
-        requires { index < length self.old }
-        ensures value { slice_get (values_of self.old) index ≡ Some result }
-        ensures after { self.new ≡ remove self.old index }
+    /// Removes the entry at a position, and returns its value. The others keep their order. Takes
+    /// no memory.
+    pub fn remove_at(&mut self, position: usize) -> V
+        requires { position < length self.old }
+        ensures value { slice_get (values_of self.old) position ≡ Some result }
+        ensures after { self.new ≡ remove self.old position }
     {
-        self.keys.remove(index);
-        self.values.remove(index)
+        self.keys.remove(position);
+        self.values.remove(position)
     }
 }

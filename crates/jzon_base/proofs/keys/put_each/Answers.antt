@@ -1,13 +1,13 @@
 use Rattle.jzon_base.proofs.Common.{◌≡◌, ◌∙◌, ◌<◌, ◌≤◌, ◌++◌, ◌∷◌, [], get_or, length, take, ap, sym, arith, get_or_default}
 use Rattle.jzon_base.proofs.Common.{length-zip, position, zip, result_ok, bytes_eq}
-use Rattle.jzon_base.specs.Private.Handed.{entries_of, IsIndexed}
+use Rattle.jzon_base.specs.Private.Runs.{all_entries, IsIndexed}
 use Rattle.jzon_base.proofs.Entries.Merges.{merging_none, merging_old, merging_new, merging_all}
 use Rattle.jzon_base.proofs.keys.put_each.Goals as goal
 use Rattle.jzon_base.proofs.keys.put_each.Goals.{in-Ok, in-Err+in_ok-add_entry-in-Err}
 
 pub loop-at-init : goal.loop-at-init
 loop-at-init g c = merging_none c.args.keys.items c.args.values.items c.new-index.result c.requires
-    (ap (λ rs. length (entries_of rs)) c.new-index.ensures)
+    (ap (λ rs. length (all_entries rs)) c.new-index.ensures)
 
 pub loop-at-preserved : goal.loop-at-preserved
 loop-at-preserved g c =

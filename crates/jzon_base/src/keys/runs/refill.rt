@@ -2,7 +2,7 @@
 //! runs are filled one after the other, each up to its old length.
 ghost use Rattle.std.specs.Prelude.{◌≡◌, ◌≤◌, ◌+◌, ◌-◌, drop, length, map, min, take};
 ghost use Rattle.std.specs.List.Sorted.{IsPermutation, IsSorted};
-ghost use Rattle.jzon_base.specs.Private.Handed.{entries_of, IsIndexOf};
+ghost use Rattle.jzon_base.specs.Private.Runs.{all_entries, IsIndexOf};
 ghost use Rattle.jzon_base.specs.Private.Hash.{hash_of};
 ghost use Rattle.jzon_base.specs.Private.Keys.{entry_cmp, hashed_from};
 
@@ -44,7 +44,7 @@ impl Runs {
     /// Replaces the entries by those of at most as many keys. Runs for which no key is left become
     /// empty. Takes no memory.
     pub fn refill(&mut self, keys: &[Key])
-        requires { length keys.now ≤ length (entries_of self.old) }
+        requires { length keys.now ≤ length (all_entries self.old) }
         ensures { IsIndexOf (map hash_of keys.now) keys.now self.new }
     {
         let mut from = 0;

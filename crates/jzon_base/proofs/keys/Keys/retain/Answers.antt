@@ -1,6 +1,6 @@
 use Rattle.jzon_base.proofs.Common.{◌≡◌, ◌≤◌, ◌∙◌, length, sym, subst, ap, arith, eqb-false, CalledAtPair}
 use Rattle.std.proofs.lemmas.Bool.{eqb-true}
-use Rattle.jzon_base.specs.Private.Handed.{IsTable}
+use Rattle.jzon_base.specs.Private.Runs.{IsTable}
 use Rattle.jzon_base.proofs.KeyIndex.Refills.{room_for_fewer}
 use Rattle.jzon_base.proofs.Entries.Retention.{IsDistinct-retained, fewer_retained, same_retained}
 use Rattle.jzon_base.proofs.KeyIndex.Tables.{IsIndexed-empty}

@@ -13,7 +13,7 @@ returns g c =
     let ps = c.args.self.now in
     let values = c.behind-entries.inside.values in
     let parts = AreParts-zip _ _ ps (search rules) c.behind-entries.invariant in
-    ap (λ ps. slice_get ps c.args.index) (sym (zip-parts ps))
-    ∙ slice_get-zip (keys_of ps) (values_of ps) c.args.index _ _ (search rules)
-    (rw (← parts.values) (slice_get_read values.items _ c.args.index _ values.ok.0
+    ap (λ ps. slice_get ps c.args.position) (sym (zip-parts ps))
+    ∙ slice_get-zip (keys_of ps) (values_of ps) c.args.position _ _ (search rules)
+    (rw (← parts.values) (slice_get_read values.items _ c.args.position _ values.ok.0
     (omega (arith, values.ok.0, parts.values_length)) c.index.ensures))

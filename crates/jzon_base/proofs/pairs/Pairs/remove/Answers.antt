@@ -3,5 +3,5 @@ use Rattle.jzon_base.proofs.Entries.PairPositions.{find_placed}
 use Rattle.jzon_base.proofs.pairs.Pairs.remove.Goals as goal
 
 pub returns-clause-value : goal.returns-clause-value
-returns-clause-value g c = sym (find_placed c.args.name.now c.args.self.now c.in_ok-index.index c.remove_at.result
-    (sym c.in_ok-index.ensures) c.remove_at.ensures.value)
+returns-clause-value g c = sym (find_placed c.args.name.now c.args.self.now c.in_ok-position.position c.remove_at.result
+    (sym c.in_ok-position.ensures) c.remove_at.ensures.value)

@@ -1,5 +1,5 @@
 use Rattle.jzon_base.proofs.Common.{◌∙◌, length, refl, ap, arith, length-set}
-use Rattle.jzon_base.specs.Private.Handed.{entries_of}
+use Rattle.jzon_base.specs.Private.Runs.{all_entries}
 use Rattle.jzon_base.proofs.KeyIndex.Refills.{AreRefilled-none, AreRefilled-more, AreRefilled-all}
 use Rattle.jzon_base.proofs.keys.runs.Runs.refill.Goals as goal
 
@@ -8,7 +8,7 @@ loop-at-init c = record {
   count = refl;
   refilled = AreRefilled-none c.args.keys.now c.self.inside.runs.items (omega (
     arith,
-    ap (λ rs. length (entries_of rs)) c.self.view_is,
+    ap (λ rs. length (all_entries rs)) c.self.view_is,
   ));
 }
 

@@ -13,11 +13,11 @@ pub returns-clause-value : goal.returns-clause-value
 returns-clause-value g c =
     let parts = AreParts-zip _ _ _ c.self.view_is c.self.invariant in
     let values = c.self.inside.values in
-    rw (← parts.values) (slice_get_read values.items _ c.args.index _ values.ok.0
+    rw (← parts.values) (slice_get_read values.items _ c.args.position _ values.ok.0
     (omega (arith, values.ok.0, parts.values_length)) c.remove-2.ensures.value)
 
 pub returns-clause-after : goal.returns-clause-after
 returns-clause-after g c =
     (λ j. zip (c.remove.ensures j) (c.remove-2.ensures.items j))
-    ∙ zip-remove c.self.inside.keys c.self.inside.values.items c.args.index c.self.invariant
-    ∙ ap (λ ps. remove ps c.args.index) c.self.view_is
+    ∙ zip-remove c.self.inside.keys c.self.inside.values.items c.args.position c.self.invariant
+    ∙ ap (λ ps. remove ps c.args.position) c.self.view_is

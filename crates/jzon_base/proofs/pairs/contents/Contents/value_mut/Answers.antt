@@ -12,10 +12,10 @@ returns g c =
     let parts = AreParts-zip _ _ _ c.self.view_is c.self.invariant in
     let keys = c.self.inside.keys in
     let values = c.self.inside.values in (
-      (refl, λ w. zip-set keys values.items c.args.index w ∙ ap (λ ps. set_value ps c.args.index w) c.self.view_is),
+      (refl, λ w. zip-set keys values.items c.args.position w ∙ ap (λ ps. set_value ps c.args.position w) c.self.view_is),
       record {
         writes_back = tt;
-        value = rw (← parts.values) (slice_get_read values.items _ c.args.index _ values.ok.0
+        value = rw (← parts.values) (slice_get_read values.items _ c.args.position _ values.ok.0
             (omega (arith, values.ok.0, parts.values_length)) c.index_mut.ensures.value);
       },
     )

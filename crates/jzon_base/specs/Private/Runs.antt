@@ -13,8 +13,8 @@ numbered n [] = []
 numbered n (h ∷ hs) = (h, n) ∷ numbered (n + 1) hs
 
 -- all entries, run after run
-abbrev pub entries_of : List (List (ℕ × ℕ)) → List (ℕ × ℕ)
-entries_of rs = flat_map (λ r. r) rs
+abbrev pub all_entries : List (List (ℕ × ℕ)) → List (ℕ × ℕ)
+all_entries rs = flat_map (λ r. r) rs
 
 -- each run is in the order of hashes and, for one hash, of keys
 abbrev pub AreSorted : List (List ℕ) → List (List (ℕ × ℕ)) → Type 0
@@ -23,7 +23,7 @@ AreSorted ks rs = All (IsSorted (entry_cmp ks)) rs
 -- the entries are the hashes with their positions, in runs that are sorted
 pub record IsIndexOf (hs : List ℕ) (ks : List (List ℕ)) (rs : List (List (ℕ × ℕ))) : Type 0 where
   pub even : length hs ≡ length ks
-  pub whole : IsPermutation (numbered 0 hs) (entries_of rs)
+  pub whole : IsPermutation (numbered 0 hs) (all_entries rs)
   pub sorted : AreSorted ks rs
 
 -- a key equal to `name` has the hash h
@@ -43,12 +43,12 @@ IsSpot ks h name rs at = 0 < length rs → IsPlace ks h name (slice_index_or rs 
 pub record IsBegun (ks : List (List ℕ)) (rs ss : List (List (ℕ × ℕ))) (p : ℕ × ℕ) : Type 0 where
   pub before : List (List (ℕ × ℕ))
   pub split : ss ≡ before ++ (p ∷ []) ∷ []
-  pub whole : IsPermutation (entries_of rs) (entries_of before)
+  pub whole : IsPermutation (all_entries rs) (all_entries before)
   pub sorted : AreSorted ks rs → AreSorted ks before
 
 -- if there are index entries, they are those of all keys
 pub record IsIndexed (ks : List (List ℕ)) (rs : List (List (ℕ × ℕ))) : Type 0 where
-  pub index : length (entries_of rs) ≢ 0 → IsIndexOf (map hash_of ks) ks rs
+  pub index : length (all_entries rs) ≢ 0 → IsIndexOf (map hash_of ks) ks rs
 
 -- distinct keys, and their index if there is one
 pub record IsTable (ks : List (List ℕ)) (rs : List (List (ℕ × ℕ))) : Type 0 where
@@ -57,6 +57,6 @@ pub record IsTable (ks : List (List ℕ)) (rs : List (List (ℕ × ℕ))) : Type
 
 -- there are index entries; that of a name has this hash, and belongs there in the last run
 pub record IsSpotFor (ks : List (List ℕ)) (rs : List (List (ℕ × ℕ))) (name : List ℕ) (h at : ℕ) : Type 0 where
-  pub some : length (entries_of rs) ≢ 0
+  pub some : length (all_entries rs) ≢ 0
   pub own : h ≡ hash_of name
   pub spot : IsSpot ks h name rs at
