@@ -25,7 +25,8 @@ const PLACES: usize = 16;
 #[doc(hidden)]
 pub const DIGITS_ROOM: usize = 48;
 
-type NumberText = ArrayString<MAX_LEN>;
+/// The text of a number.
+pub type NumberText = ArrayString<MAX_LEN>;
 
 /// Writes the text of the number `n * 10 ^ exponent` with its sign, at most `MAX_LEN` bytes. An
 /// error of the writer is returned; a prefix of the text is then written.
