@@ -1,6 +1,6 @@
 //! The calls of library.rt.in by the Rust crate: `beside SIDE CALL REPEATS`. There is one side, `jzon`.
 use jzon::{object::Object, parse, JsonValue};
-use std::io::{stdin, Read};
+use std::io::{self, stdin, BufWriter, Read, Write};
 
 fn strings(value: &JsonValue) -> Vec<String> {
     value.members().filter_map(|item| item.as_str().map(String::from)).collect()
@@ -39,8 +39,50 @@ fn pushed(count: usize) -> usize {
     array.len()
 }
 
+/// Counts the bytes that it gets.
+struct Counter(usize);
+
+impl Write for Counter {
+    fn write(&mut self, buf: &[u8]) -> io::Result<usize> {
+        self.0 += buf.len();
+        Ok(buf.len())
+    }
+
+    fn flush(&mut self) -> io::Result<()> {
+        Ok(())
+    }
+}
+
+fn print(value: &JsonValue, call: &str, writer: &mut impl Write) -> io::Result<()> {
+    match call.starts_with("write_pretty") {
+        true => value.write_pretty(writer, 2),
+        false => value.write(writer),
+    }
+}
+
+fn written(call: &str, repeats: usize, value: &JsonValue) -> io::Result<usize> {
+    if call.ends_with("buffered") {
+        let mut out = BufWriter::new(Counter(0));
+        for _ in 0..repeats {
+            print(value, call, &mut out)?;
+        }
+        out.flush()?;
+        return Ok(out.get_ref().0);
+    }
+    let (mut bytes, mut sum) = (Vec::new(), 0);
+    for _ in 0..repeats {
+        bytes.clear();
+        print(value, call, &mut bytes)?;
+        sum += bytes.len();
+    }
+    Ok(sum)
+}
+
 fn work(call: &str, repeats: usize, source: &str) -> usize {
     let read = || parse(source).expect("a valid text");
+    if call.starts_with("write") {
+        return written(call, repeats, &read()).expect("a writer that works");
+    }
     if call == "parse" || call == "strict" {
         return (0..repeats).map(|_| read().len()).sum();
     }

@@ -159,18 +159,18 @@ def build(words, folder, program, status):
     return program
 
 
-def rattle_build(source, *deps):
-    """Proves and builds main.rt.in with this source in a copy of the crates. Without arguments the program ends with
-    the status 1."""
+def rattle_build(source, *deps, is_program=False):
+    """Proves and builds this source, a program or the module `calls` of main.rt.in, in a copy of the crates. Without
+    arguments and input the program ends with the status 1."""
     folder, crate = ROOM / source, ROOM / source / "crates/calls"
     shutil.rmtree(folder, ignore_errors=True)
     shutil.copytree(TOP / "crates", folder / "crates", ignore=shutil.ignore_patterns("out", "must-fail*"))
     (crate / "src").mkdir(parents=True)
     (folder / ".git").mkdir()
-    for file, copy in (
-        (HERE / "main.rt.in", crate / "src/main.rt"), (HERE / source, crate / "src/calls.rt"), (TOP / "HANDLES", folder)
-    ):
-        shutil.copy(file, copy)
+    shutil.copy(HERE / (source if is_program else "main.rt.in"), crate / "src/main.rt")
+    if not is_program:
+        shutil.copy(HERE / source, crate / "src/calls.rt")
+    shutil.copy(TOP / "HANDLES", folder)
     (folder / "crates.txt").write_text((TOP / "crates.txt").read_text("utf-8") + f"calls: {' '.join(deps)}\n", "utf-8")
     print(
         f"bench: proving and building {source}, which takes minutes where it or its library isn't proved yet",
