@@ -15,7 +15,7 @@ ghost use Rattle.jzon_base.specs.Tokens.{end_array};
 use crate::cursor::{ContainerKind, Cursor};
 use crate::fault::{self, Stop};
 use crate::primitive::put_primitive;
-use crate::reading::{Reading, USUAL};
+use crate::reading::Reading;
 use crate::stacks::Stacks;
 use crate::string::read_string;
 use jzon_base::error::{Error, Result};
@@ -46,7 +46,7 @@ pub fn parse(alloc: Global, source: &str) -> Result<JsonValue>
     ensures error { IfErr result (IsErrorUnlessMemory usual (chars source.now)) }
     ensures memory { result ≡ Err Error.OutOfMemory → TakesMemory (chars source.now) }
 {
-    parse_as(alloc, source, &USUAL)
+    parse_as(alloc, source, &Reading::USUAL)
 }
 
 /// The value that a text means by `reading` (docs/RULES.md, "Readings"), which sets how many
@@ -55,10 +55,7 @@ pub fn parse(alloc: Global, source: &str) -> Result<JsonValue>
 /// All else is as with `parse`.
 ///
 /// ```rust
-/// match Reading::new(true, 512) {
-///     Some(strict) => jzon::parse_as(alloc, text, &strict),
-///     None => Err(Error::ExceededDepthLimit),
-/// }
+/// jzon::parse_as(alloc, text, &Reading::STRICT)
 /// ```
 pub fn parse_as(alloc: Global, source: &str, reading: &Reading) -> Result<JsonValue>
     ensures value { IfOk result (IsMeaningOf reading.now (chars source.now)) }

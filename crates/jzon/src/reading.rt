@@ -31,20 +31,29 @@ impl Model for Reading {
     ghost inverse = { fields_of };
 }
 
-/// The reading of `parse`.
-pub(crate) const USUAL: Reading = Reading {
-    strict: false,
-    depth: 512,
-};
+/// The greatest depth of a reading.
+const MAX_DEPTH: u16 = 512;
 
 impl Reading {
+    /// The reading of `parse`: not strict, of depth 512.
+    pub const USUAL: Reading = Reading {
+        strict: false,
+        depth: MAX_DEPTH,
+    };
+
+    /// The strict reading of depth 512.
+    pub const STRICT: Reading = Reading {
+        strict: true,
+        depth: MAX_DEPTH,
+    };
+
     /// The reading with these settings; `None` if `depth` is above 512. At depth 0 a text may be a
     /// primitive or an empty container; at depth 1 there may be primitives and empty containers in
     /// a container.
     pub fn new(strict: bool, depth: u16) -> Option<Reading>
         ensures { SomeIff result (depth ≤ 512) (record { strict = strict; depth = depth }) }
     {
-        if depth > 512 {
+        if depth > MAX_DEPTH {
             return None;
         }
         Some(Reading { strict, depth })

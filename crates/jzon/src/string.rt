@@ -74,7 +74,7 @@ pub(crate) fn put_string_value<T: Target>(
         × (view v ≡ text (kind_of content.now) content.now)) }
     ensures kept { OnErr result (target.new ≡ target.old) }
     ensures memory { IsOkUnless result Memory }
-    ensures in_place { length content.now ≤ 30 → IsOk result }
+    ensures in_place { length content.now ≤ MAX_LEN → IsOk result }
 {
     if content.len() <= MAX_LEN {
         target.put(JsonValue::Short(Short::from_wide(content, wide)));

@@ -26,6 +26,10 @@ fn has_at_most_512_open(rt: HostRuntime) {
         let is_right = found.is_none_or(|found| found == (*strict, *depth));
         expect(&rt, "its strictness and depth", is_right);
     }
+    for (reading, strict) in [(Reading::USUAL, false), (Reading::STRICT, true)] {
+        let found = (reading.strict(), reading.depth());
+        expect_eq(&rt, "a constant", found, (strict, 512));
+    }
 }
 
 /// Whether the reading is strict, its depth, a text, and the dump of its value.

@@ -55,10 +55,7 @@ pub fn parse_after_mark(alloc: Global, text: &str) -> Result<JsonValue> {
 
 /// The value of a text that repeats no key in an object.
 pub fn parse_strictly(alloc: Global, text: &str) -> Result<JsonValue> {
-    match Reading::new(true, 512) {
-        Some(strict) => jzon::parse_as(alloc, text, &strict),
-        None => Err(Error::ExceededDepthLimit),
-    }
+    jzon::parse_as(alloc, text, &Reading::STRICT)
 }
 
 /// The value of a text in which at most 16 containers are open at once.
