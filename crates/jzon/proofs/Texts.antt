@@ -35,6 +35,7 @@ pub mod WhitespaceBlocks
 pub mod StepsByByte
 pub mod FaultOffsets
 pub mod ReportedErrors
+pub mod LocatedErrors
 pub mod Cursors
 pub mod Columns
 pub mod TrailingWhitespace

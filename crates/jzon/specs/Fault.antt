@@ -71,6 +71,11 @@ IsFirstFault r t i f = IsFault r t i f × ((j : ℕ) (g : Fault) → IsFault r t
 
 -- ---- errors
 
+-- the offset that is reported for a fault at offset i: the opening quote of a repeated key, else that of the fault
+abbrev pub reported_offset : ℕ → Fault → ℕ
+reported_offset i (limit (duplicate back)) = i - back
+reported_offset i f = i
+
 -- the line of the character after a prefix: 1 plus the newlines of the prefix
 abbrev pub line : List ℕ → ℕ
 line prefix = count_by (λ c. c == 10) prefix + 1

@@ -6,6 +6,7 @@ pub mod Meaning
 pub mod Fault
 pub mod Laws
 pub mod Answer
+pub mod Located
 -- the definitions that the contracts of this crate and of its re-exports cite
 pub use Rattle.jzon_base.specs.Decimal
 pub use Rattle.jzon_base.specs.DigitLimits

@@ -10,7 +10,7 @@ ghost use Rattle.jzon.specs.Private.Machine.{Frames, frames_depth, value_mark, b
 ghost use Rattle.jzon_base.specs.Tokens.{begin_array, begin_object};
 
 use crate::bytes_at::byte_at;
-use crate::fault::{Result, Stop, fault_at};
+use crate::fault::{Result, Stop, fault_at, too_deep};
 use crate::reading::Reading;
 use crate::whitespace::skip_whitespace;
 use jzon_tree::object::Object;
@@ -153,7 +153,7 @@ impl<'a> Cursor<'a> {
             return Err(self.fault());
         }
         if depth == usize::from(self.reading.depth()) {
-            return Err(Stop::Limit);
+            return Err(too_deep(self.index));
         }
         Ok(false)
     }

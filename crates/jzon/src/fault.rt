@@ -5,8 +5,9 @@ ghost use Rattle.std.specs.Prelude.{◌≡◌, ◌+◌, drop, chars};
 ghost use Rattle.std.specs.Str.{IsCharBoundary};
 ghost use Rattle.jzon.specs.Fault.{line, column};
 ghost use Rattle.jzon.specs.Private.Machine.{Reports, fault_here};
-ghost use Rattle.jzon.specs.Private.Stops.{IsAtBoundary, reported_error};
+ghost use Rattle.jzon.specs.Private.Stops.{IsAtBoundary, reported_error, stop_place};
 
+use crate::located::{LocatedError, Place};
 use jzon_base::error::Error;
 use std::alloc::AllocError;
 
@@ -17,10 +18,12 @@ use std::alloc::AllocError;
 pub(crate) enum Stop {
     /// An allocation failed.
     Memory,
-    /// The text has more open containers, or a number more digits, than is allowed.
-    Limit,
-    /// Two escapes of surrogates mean no character together.
-    Surrogates,
+    /// The text has more open containers, or a number more digits, than is allowed: the first
+    /// character too many is at this offset.
+    Limit(usize),
+    /// Two escapes of surrogates mean no character together: the last digit of the second one is
+    /// at this offset.
+    Surrogates(usize),
     /// The text has no valid continuation at this offset.
     At(usize),
     /// The key whose opening quote is at this offset was there before.
@@ -49,8 +52,8 @@ impl Stop {
     {
         match self {
             Stop::Memory => Error::OutOfMemory,
-            Stop::Limit => Error::ExceededDepthLimit,
-            Stop::Surrogates => Error::FailedUtf8Parsing,
+            Stop::Limit(_) => Error::ExceededDepthLimit,
+            Stop::Surrogates(_) => Error::FailedUtf8Parsing,
             Stop::At(index) => match source[index..].chars().next() {
                 None => Error::UnexpectedEndOfJson,
                 Some(ch) => Error::UnexpectedCharacter {
@@ -63,6 +66,28 @@ impl Stop {
                 line: line_after(&source[..start]),
                 column: column_after(&source[..start]),
             },
+        }
+    }
+
+    /// The error that is returned for it, and its place.
+    pub(crate) fn located(self, source: &str) -> LocatedError
+        requires { IsAtBoundary source.now self }
+        ensures error { result.error ≡ reported_error source.now self }
+        ensures place { result.place ≡ stop_place source.now self }
+    {
+        let place = match self {
+            Stop::Memory => None,
+            Stop::Limit(i) | Stop::Surrogates(i) | Stop::At(i) | Stop::Duplicate(i) => Some(
+                Place {
+                    offset: i,
+                    line: line_after(&source[..i]),
+                    column: column_after(&source[..i]),
+                },
+            ),
+        };
+        LocatedError {
+            error: self.error(source),
+            place,
         }
     }
 }
@@ -90,4 +115,13 @@ pub(crate) fn fault_at(source: &str, index: usize) -> Stop
     ensures { Reports source.now result (fault_here (chars (drop index source.now))) }
 {
     Stop::At(index)
+}
+
+/// The stop for one open container too many. Not inlined, so that it costs the usual path nothing.
+#[cold]
+#[inline(never)]
+pub(crate) fn too_deep(index: usize) -> Stop
+    ensures { result ≡ Stop.Limit index }
+{
+    Stop::Limit(index)
 }

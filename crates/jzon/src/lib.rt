@@ -8,6 +8,7 @@ mod conversions;
 mod cursor;
 mod fault;
 pub mod laws;
+mod located;
 mod macros;
 mod numeral;
 mod parser;
@@ -26,9 +27,10 @@ pub use jzon_tree::value::JsonValue;
 pub use jzon_tree::value::JsonValue::Null;
 pub use jzon_tree::view::View;
 pub use jzon_tree::{codegen, lent};
+pub use located::{LocatedError, Place};
 #[doc(hidden)]
 pub use macros::{with_entry, with_item};
-pub use parser::{parse, parse_as};
+pub use parser::{parse, parse_as, parse_located};
 pub use reading::Reading;
 
 /// The elements of an array.

@@ -32,11 +32,11 @@ ghost use Rattle.jzon.specs.Grammar.{is_exponent_letter};
 ghost use Rattle.jzon.specs.Private.Classes.{after_letter};
 ghost use Rattle.jzon_base.specs.Tokens.{zero_digit};
 ghost use Rattle.jzon.specs.Private.Machine.{Frames, numeral, numeral_after_first, after_value, from, fault_here, Leads};
-ghost use Rattle.jzon.specs.Private.Numerals.{LeadsTo, MissesDigit, HasTooMany};
+ghost use Rattle.jzon.specs.Private.Numerals.{LeadsTo, MissesDigit, HasTooMany, digit_offset};
 
 use crate::bytes_at::{byte_at, has_byte};
 use crate::fault::{Result, Stop, fault_at};
-use jzon_base::digits::{read_scanned, scan};
+use jzon_base::digits::{DigitFault, read_scanned, scan};
 use jzon_base::number::Number;
 
 /// The number whose first digit is at `start`, after a minus if it is `negative`, and the offset
@@ -63,9 +63,23 @@ pub(crate) fn read_number(source: &str, start: usize, negative: bool) -> Result<
     );
     match number {
         // A digit too many comes before a missing one.
-        Err(_) => Err(Stop::Limit),
+        Err(fault) => Err(Stop::Limit(offset_of(fault, start, spelling.whole.len()))),
         Ok(_) if spelling.is_missing => Err(fault_at(source, spelling.end)),
         Ok(number) => Ok((number, spelling.end)),
+    }
+}
+
+/// The offset of a digit, by its position in the number whose first digit is at `start`. `whole` is
+/// how many digits are before the point.
+#[cold]
+#[inline(never)]
+fn offset_of(fault: DigitFault, start: usize, whole: usize) -> usize
+    requires { digit_offset start whole fault < 2 ^ 64 }
+    ensures { result ≡ digit_offset start whole fault }
+{
+    match fault {
+        DigitFault::Whole(i) => start + i,
+        DigitFault::Fraction(i) => start + whole + 1 + i,
     }
 }
 
@@ -102,7 +116,7 @@ fn spelling_at(source: &str, start: usize) -> Spelling<'_>
     ensures missing { AreFewEnough result.whole.now result.fraction.now → result.is_missing ≡ true
         → MissesDigit source.now start result.end }
     ensures too_many { (f : DigitFault) → IsFirstTooMany result.whole.now result.fraction.now f
-        → HasTooMany source.now start }
+        → HasTooMany source.now start (digit_offset start (length result.whole.now) f) }
 {
     let magnitude = magnitude_at(source, start);
     if magnitude.is_missing || !has_exponent_letter(source, magnitude.end) {
@@ -142,7 +156,7 @@ fn magnitude_at(source: &str, start: usize) -> Spelling<'_>
     ensures missing { AreFewEnough result.whole.now result.fraction.now → result.is_missing ≡ true
         → MissesDigit source.now start result.end }
     ensures too_many { (f : DigitFault) → IsFirstTooMany result.whole.now result.fraction.now f
-        → HasTooMany source.now start }
+        → HasTooMany source.now start (digit_offset start (length result.whole.now) f) }
 {
     let (whole, before) = before_point(source, start);
     let end = start + whole.len();

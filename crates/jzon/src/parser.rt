@@ -9,11 +9,13 @@ ghost use Rattle.jzon.specs.Private.Cursor.{left, next_byte, GoesOn, PassesOn};
 ghost use Rattle.jzon.specs.Private.Machine.{no_frames, is_fresh, before, after_value, from, Reads};
 ghost use Rattle.jzon.specs.Private.OpenContainers.{frames_around, frames_here, before_item, after_end, whole, HasAllValues, AwaitsValue, IsBeforeItem, IsAfterEnd, KeepsAround};
 ghost use Rattle.jzon.specs.Private.Read.{after_read, IsAfterValue, ReadsItems};
+ghost use Rattle.jzon.specs.Located.{IsLocated};
 ghost use Rattle.jzon.specs.Reading.{usual};
 ghost use Rattle.jzon_base.specs.Tokens.{end_array};
 
 use crate::cursor::{ContainerKind, Cursor};
 use crate::fault::{self, Stop};
+use crate::located::LocatedError;
 use crate::primitive::put_primitive;
 use crate::reading::Reading;
 use crate::stacks::Stacks;
@@ -66,6 +68,25 @@ pub fn parse_as(alloc: Global, source: &str, reading: &Reading) -> Result<JsonVa
     match read(alloc, source, *reading) {
         Ok(value) => Ok(value),
         Err(stop) => Err(stop.error(source)),
+    }
+}
+
+/// Does what `parse_as` does; an error has its place in the text too. The place of a repeated key is
+/// that of its opening quote, of a number with too many digits that of the first digit too many, and
+/// of two escapes that mean no character that of their last digit.
+pub fn parse_located(
+    alloc: Global,
+    source: &str,
+    reading: &Reading,
+) -> std::result::Result<JsonValue, LocatedError>
+    ensures value { IfOk result (IsMeaningOf reading.now (chars source.now)) }
+    ensures readable { IfOk result (λ v. IsReadable reading.now (view v)) }
+    ensures error { IfErr result (IsLocated reading.now source.now) }
+    ensures memory { IfErr result (λ l. l.place ≡ None → TakesMemory (chars source.now)) }
+{
+    match read(alloc, source, *reading) {
+        Ok(value) => Ok(value),
+        Err(stop) => Err(stop.located(source)),
     }
 }
 

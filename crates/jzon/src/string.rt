@@ -219,7 +219,7 @@ fn read_second(source: &str, start: usize, first: u32) -> Result<(char, usize)>
     let unit = read_hex(source, start + 2)?;
     match paired_char(first, unit) {
         Some(ch) => Ok((ch, start + 6)),
-        None => Err(Stop::Surrogates),
+        None => Err(Stop::Surrogates(start + 5)),
     }
 }
 
@@ -240,6 +240,7 @@ fn read_hex(source: &str, start: usize) -> Result<u32>
     ensures value { IfOk result (λ u. u ≡ code_unit (slice_range source.now start (start + 4))) }
     ensures small { IfOk result (λ u. u < 0x10000) }
     ensures boundary { OnOk result (IsCharBoundary source.now (start + 4)) }
+    ensures last { OnOk result (IsCharBoundary source.now (start + 3)) }
     ensures first { ReadsUnit source.now start result }
     ensures second { ReadsSecondUnit source.now start result }
 {
@@ -262,6 +263,7 @@ fn read_hex_by_digits(source: &str, start: usize) -> Result<u32>
     ensures value { IfOk result (λ u. u ≡ code_unit (slice_range source.now start (start + 4))) }
     ensures small { IfOk result (λ u. u < 0x10000) }
     ensures boundary { OnOk result (IsCharBoundary source.now (start + 4)) }
+    ensures last { OnOk result (IsCharBoundary source.now (start + 3)) }
     ensures first { ReadsUnit source.now start result }
     ensures second { ReadsSecondUnit source.now start result }
 {

@@ -1,7 +1,7 @@
 //! Tests of `cookbook::reading`.
 
-use crate::common::Tested;
-use jzon::Error;
+use crate::common::{Tested, expect, expect_eq};
+use jzon::{Error, LocatedError, Reading};
 use jzon_examples::cookbook::reading::{
     LoadError, explained, load, parse_after_mark, parse_all, parse_bytes, parse_flat, parse_lines,
     parse_strictly,
@@ -85,11 +85,62 @@ fn rejects_a_lone_surrogate(rt: HostRuntime) -> Tested {
 fn explains(rt: HostRuntime) -> Tested {
     let alloc = rt.alloc();
     let faulty = "{\n  \"a\": 1\n  \"b\": 2\n}";
-    let error = jzon::parse(alloc, faulty).err().ok_or("no error")?;
+    let error = jzon::parse_located(alloc, faulty, &Reading::USUAL)
+        .err()
+        .ok_or("no error")?;
     assert_eq!(rt;
-        explained(alloc, faulty, &error)?.as_str(),
-        "Unexpected character: \" at (3:3)\n  \"b\": 2"
+        explained(alloc, "a.json", faulty, &error)?.as_str(),
+        "a.json:3:3: Unexpected character: \" at (3:3)\n  \"b\": 2\n  ^"
     );
+    Ok(())
+}
+
+/// A text, and what is printed for its error.
+const EXPLAINED: &[(&str, &str)] = &[
+    ("", "f:1:1: Unexpected end of JSON\n\n^"),
+    ("[1,\n", "f:2:1: Unexpected end of JSON\n\n^"),
+    (
+        "[\"é\"\n, \"\\udc00\\udc00\"]",
+        "f:2:15: Failed to parse UTF-8 bytes\n, \"\\udc00\\udc00\"]\n              ^",
+    ),
+];
+
+#[test]
+fn explains_each_error(rt: HostRuntime) -> Tested {
+    let alloc = rt.alloc();
+    for (text, message) in EXPLAINED {
+        match jzon::parse_located(alloc, text, &Reading::USUAL) {
+            Ok(_) => expect(&rt, text, false),
+            Err(error) => {
+                let words = explained(alloc, "f", text, &error)?;
+                expect_eq(&rt, text, words.as_str(), message);
+            }
+        }
+    }
+    let memory = LocatedError {
+        error: Error::OutOfMemory,
+        place: None,
+    };
+    let words = explained(alloc, "f", "", &memory)?;
+    expect_eq(&rt, "no place", words.as_str(), "f: Out of memory");
+    Ok(())
+}
+
+/// The 40 characters before the column, and the 40 from it on.
+#[test]
+fn cuts_long_lines(rt: HostRuntime) -> Tested {
+    let alloc = rt.alloc();
+    let ones = "1,".repeat(alloc, 100)?;
+    let twos = "2,".repeat(alloc, 100)?;
+    let text = format!(in alloc; "[{ones}x{twos}")?;
+    let error = jzon::parse_located(alloc, text.as_str(), &Reading::USUAL).err();
+    let words = explained(alloc, "f", text.as_str(), &error.ok_or("no error")?)?;
+    let (before, after) = ("1,".repeat(alloc, 20)?, "2,".repeat(alloc, 19)?);
+    let indent = " ".repeat(alloc, 40)?;
+    let message = format!(in alloc;
+        "f:1:202: Unexpected character: x at (1:202)\n{before}x{after}2\n{indent}^"
+    )?;
+    expect_eq(&rt, "cut", words.as_str(), message.as_str());
     Ok(())
 }
 

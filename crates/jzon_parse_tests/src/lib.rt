@@ -8,6 +8,8 @@ mod large;
 #[cfg(test)]
 mod macros;
 #[cfg(test)]
+mod places;
+#[cfg(test)]
 mod readings;
 #[cfg(test)]
 mod texts;

@@ -83,9 +83,9 @@ left_open Object t fs e le = reported_end t.reading t.source.now t.index (before
 
 pub item_too_deep : (b : ContainerKind) (t : Cursor) (fs : Frames) → t.index < length t.source.now → next_byte t ≢ closer b
     → t.reading.depth ≤ frames_depth fs
-    → ReportsUnlessMemory t.source.now Limit (left t (after_opener b fs))
+    → ReportsUnlessMemory t.source.now (Limit t.index) (left t (after_opener b fs))
 item_too_deep b t fs lt n le =
-    reported_deep t.source.now (chars (drop t.index t.source.now)) _
+    reported_deep t.source.now t.index _ (utf8_of t) t.boundary
     (deep_item t.reading t.source.now t.index b fs (utf8_of t) t.boundary lt (t.past_whitespace lt) n
     (le-leb t.reading.depth (frames_depth fs) le))
 

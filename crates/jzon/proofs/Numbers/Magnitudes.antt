@@ -1,11 +1,11 @@
 -- The digits of a number before its exponent, by offsets of the text's bytes: `reads_whole_alone` without a fraction,
 -- `reads_whole_and_fraction` with one.
-use Rattle.jzon_base.proofs.Common.{◌≡◌, ◌∙◌, ℕ, ◌+◌, ◌<◌, ◌≤◌, Bool, true, false, not, if◌then◌else◌, ◌==◌, List, []}
+use Rattle.jzon_base.proofs.Common.{◌≡◌, ◌∙◌, inr, ℕ, ◌+◌, ◌<◌, ◌≤◌, Bool, true, false, not, if◌then◌else◌, ◌==◌, List, []}
 use Rattle.jzon_base.proofs.Common.{◌∷◌, ◌++◌, length, drop, get_or, pos, refl, sym, ap, subst, arith, eqb-true}
 use Rattle.jzon_base.proofs.Common.{true≢false, length-append, chars, IsUtf8, IsTrue, is_ascii_digit, IsCharBoundary}
 use Rattle.jzon_base.proofs.Common.{All, take_while, ne_eqb, nat_tests, All-nil, All-cons, IsCharBoundary-before_ascii}
 use Rattle.jzon_base.proofs.Common.{IsCharBoundary-after_ascii}
-use Rattle.jzon_base.specs.Digits.{IsDigit, dropped, kept_fraction, number_read}
+use Rattle.jzon_base.specs.Digits.{IsDigit, kept_len, dropped, kept_fraction, read_number}
 use Rattle.jzon_base.specs.DigitLimits.{AreFewEnough, IsFirstTooMany}
 use Rattle.jzon_base.specs.declared.digits.DigitFault.{DigitFault}
 use Rattle.jzon_base.specs.declared.digits.DigitFault.TheVariants.{Whole, Fraction}
@@ -18,7 +18,8 @@ use Rattle.jzon.specs.Fault.{limit}
 use Rattle.jzon.specs.Private.Classes.{pointed, after_letter}
 use Rattle.jzon.specs.declared.fault.Stop.TheVariants.{Limit}
 use Rattle.jzon.specs.Private.Machine.{Frames, numeral, after_value, Outcome, refused, outcome, from, Reports}
-use Rattle.jzon.specs.Private.Numerals.{after_first, LeadsTo, MissesDigit, HasTooMany}
+use Rattle.jzon.specs.Private.Numerals.{after_first, LeadsTo, MissesDigit, HasTooMany, digit_offset}
+use Rattle.jzon.proofs.Texts.FaultOffsets.{reports_limit}
 use Rattle.jzon.proofs.Numbers.DigitRuns.{refuse_fraction}
 use Rattle.jzon.proofs.Numbers.NumeralOutcomes.{NextFails, ReadsWhole, reads_zero, reads_digits, whole_to_point}
 use Rattle.jzon.proofs.Numbers.NumeralOutcomes.{whole_to_letter, whole_to_end, fraction_to_letter, fraction_to_end}
@@ -45,6 +46,9 @@ pub record WholeStands (bs : List ℕ) (i : ℕ) (ws : List ℕ) : Type 0 where
   pub boundary : IsCharBoundary bs (i + length ws)
   pub reads : (r : Reading) → ReadsWhole r (get_or bs i 0) ws (chars (drop (i + 1) bs))
       (chars (drop (i + length ws) bs))
+  -- from the digit at position n on, if there is more than one
+  pub from : (n : ℕ) → n ≤ length ws → 1 < length ws → IsCharBoundary bs (i + n)
+      × (chars (drop (i + n) bs) ≡ drop n ws ++ chars (drop (i + length ws) bs))
 
 pub whole_stands : (bs : List ℕ) (i : ℕ) (ws : List ℕ) → IsUtf8 bs → i < length bs
     → IsTrue (is_ascii_digit (get_or bs i 0))
@@ -63,6 +67,7 @@ whole_stands bs i ws u lt is_digit e = by_first (get_or bs i 0 == 48) refl e
       all = All-cons IsDigit 48 [] (omega arith, omega arith) (All-nil IsDigit);
       boundary = after;
       reads = λ r. reads_zero r (get_or bs i 0) (chars (drop (i + 1) bs)) is_zero;
+      from = λ n le more. absurd (omega arith);
     })
     by_first false other e =
         let k = digits_stand bs i ws u here e in
@@ -73,6 +78,7 @@ whole_stands bs i ws u lt is_digit e = by_first (get_or bs i 0 == 48) refl e
           boundary = k.boundary;
           reads = λ r. all_digits r (get_or bs i 0) ws (chars (drop (i + 1) bs)) (chars (drop (i + length ws) bs)) other
               is_digit k.digits k.next first;
+          from = λ n le more. k.from n le;
         }
 
 -- ---- whole digits and fraction digits
@@ -88,11 +94,14 @@ pub record ReadsMagnitude (bs : List ℕ) (i : ℕ) (ws ds : List ℕ) (e : ℕ)
   pub to_end : AreFewEnough ws ds → missing ≡ false → (e < length bs → is_exponent_letter (get_or bs e 0) ≡ false)
       → LeadsTo bs i e (λ fs negative. after_value fs (value.number (number_read (not negative) ws ds (pos 0))))
   pub stops : AreFewEnough ws ds → missing ≡ true → MissesDigit bs i e
-  pub refuses : (f : DigitFault) → IsFirstTooMany ws ds f → HasTooMany bs i
+  pub refuses : (f : DigitFault) → IsFirstTooMany ws ds f → HasTooMany bs i (digit_offset i (length ws) f)
 
--- this error reports a fault at a digit
-reports_digit : (t rest : List ℕ) (o : Outcome) → o ≡ refused (limit digit) rest → Reports t Limit o
-reports_digit t rest o e = subst (Reports t Limit) (sym e) (tt, refl)
+-- this error reports a fault at the digit at position n of these digits, which are at offset i
+reports_digit : (bs : List ℕ) (i n : ℕ) (ds rest : List ℕ) (o : Outcome) → IsUtf8 bs
+    → IsCharBoundary bs (i + n) × (chars (drop (i + n) bs) ≡ drop n ds ++ rest)
+    → o ≡ refused (limit digit) (drop n ds ++ rest) → Reports bs (Limit (i + n)) o
+reports_digit bs i n ds rest o u h e =
+    reports_limit bs (i + n) o u h.0 (inr (e ∙ ap (λ cs. refused (limit digit) cs) (sym h.1)))
 
 pub letter_is_ascii : (c : ℕ) → is_exponent_letter c ≡ true → c < 128
 letter_is_ascii c h = grind (arith, nat_tests)
@@ -100,12 +109,12 @@ letter_is_ascii c h = grind (arith, nat_tests)
 keeps_no_fraction : (ws : List ℕ) → kept_fraction ws [] ≡ 0
 keeps_no_fraction ws = omega (arith, (kept_len_is_longest (ws ++ [])).within, length-append ws [])
 
-whole_too_many : (bs : List ℕ) (i : ℕ) (ws ds : List ℕ) → WholeStands bs i ws → 32768 ≤ dropped ws ds
-    → HasTooMany bs i
+whole_too_many : (bs : List ℕ) (i : ℕ) (ws ds : List ℕ) → IsUtf8 bs → WholeStands bs i ws → 32768 ≤ dropped ws ds
+    → HasTooMany bs i (i + (kept_len (ws ++ ds) + 32767))
 unfolding from
-whole_too_many bs i ws ds w many r fs negative =
-    let k = (w.reads r).refuses fs negative ds many in
-    reports_digit bs k.0 _ k.1
+whole_too_many bs i ws ds u w many r fs negative =
+    reports_digit bs i (kept_len (ws ++ ds) + 32767) ws (chars (drop (i + length ws) bs)) _ u
+    (w.from (kept_len (ws ++ ds) + 32767) (omega arith) (omega arith)) ((w.reads r).refuses fs negative ds many)
 
 pub reads_whole_alone : (bs : List ℕ) (i : ℕ) (ws : List ℕ) → IsUtf8 bs → WholeStands bs i ws
     → ((i + length ws < length bs) × (get_or bs (i + length ws) 0 ≡ 46) → ⊥)
@@ -130,8 +139,8 @@ reads_whole_alone bs i ws u w no_point =
       refuses = too_many;
     }
   where
-    too_many : (f : DigitFault) → IsFirstTooMany ws [] f → HasTooMany bs i
-    too_many (Whole k) h r fs negative = whole_too_many bs i ws [] w h.0 r fs negative
+    too_many : (f : DigitFault) → IsFirstTooMany ws [] f → HasTooMany bs i (digit_offset i (length ws) f)
+    too_many (Whole k) h r fs negative = rw (h.1) (whole_too_many bs i ws [] u w h.0 r fs negative)
     too_many (Fraction k) h r fs negative = absurd (omega (arith, h.0, keeps_no_fraction ws))
 
 -- With a point at offset p: what is left is the text after it.
@@ -145,15 +154,15 @@ to_point bs i p ws ds u w at lt is_point few r fs negative =
     whole_to_point r fs negative (get_or bs i 0) ws (chars (drop (i + 1) bs)) (chars (drop (p + 1) bs)) ds
     (rw (next_is bs p 46 u boundary lt is_point (omega arith)) at reads) few
 
-fraction_too_many : (bs : List ℕ) (j : ℕ) (ws ds : List ℕ) → AreDigitsAt bs j ds → 32769 ≤ kept_fraction ws ds
-    → (r : Reading) (fs : Frames) (negative : Bool)
-    → Reports bs Limit (from r bs (numeral fs negative (pointed ws)) j)
+fraction_too_many : (bs : List ℕ) (j : ℕ) (ws ds : List ℕ) → IsUtf8 bs → AreDigitsAt bs j ds
+    → 32769 ≤ kept_fraction ws ds → (r : Reading) (fs : Frames) (negative : Bool)
+    → Reports bs (Limit (j + 32768)) (from r bs (numeral fs negative (pointed ws)) j)
 unfolding from
-fraction_too_many bs j ws ds k many r fs negative =
-    let some : 0 < length ds = omega (arith, (kept_len_is_longest (ws ++ ds)).within, length-append ws ds) in
-    reports_digit bs (drop 32768 ds ++ chars (drop (j + length ds) bs)) _
+fraction_too_many bs j ws ds u k many r fs negative =
+    let some : 32768 < length ds = omega (arith, (kept_len_is_longest (ws ++ ds)).within, length-append ws ds) in
+    reports_digit bs j 32768 ds (chars (drop (j + length ds) bs)) _ u (k.from 32768 (omega arith))
     (ap (λ cs. outcome r cs (numeral fs negative (pointed ws))) k.split
-    ∙ refuse_fraction r fs negative ws ds (chars (drop (j + length ds) bs)) (some_digits ds k.digits some) many)
+    ∙ refuse_fraction r fs negative ws ds (chars (drop (j + length ds) bs)) (some_digits ds k.digits (omega arith)) many)
 
 -- The digits after it are ds, and none is missing if ds isn't empty.
 pub reads_whole_and_fraction : (bs : List ℕ) (i p : ℕ) (ws ds : List ℕ) → IsUtf8 bs → WholeStands bs i ws
@@ -193,10 +202,12 @@ reads_whole_and_fraction bs i p ws ds u w at lt is_point same =
     not_none : (n : ℕ) → (n == 0) ≡ false → 0 < n
     not_none n h = grind (arith, nat_tests)
 
-    too_many : AreDigitsAt bs (p + 1) ds → (f : DigitFault) → IsFirstTooMany ws ds f → HasTooMany bs i
-    too_many k (Whole n) h r fs negative = whole_too_many bs i ws ds w h.0 r fs negative
+    too_many : AreDigitsAt bs (p + 1) ds → (f : DigitFault) → IsFirstTooMany ws ds f
+        → HasTooMany bs i (digit_offset i (length ws) f)
+    too_many k (Whole n) h r fs negative = rw (h.1) (whole_too_many bs i ws ds u w h.0 r fs negative)
     too_many k (Fraction n) h r fs negative =
-        subst (Reports bs Limit)
+        let offset : i + length ws + 1 + n ≡ p + 1 + 32768 = omega (arith, at, h.1) in
+        rw (offset) (subst (Reports bs (Limit (p + 1 + 32768)))
         (sym (to_point bs i p ws ds u w at lt is_point (omega (arith, h.0))
         r fs negative))
-        (fraction_too_many bs (p + 1) ws ds k h.0 r fs negative)
+        (fraction_too_many bs (p + 1) ws ds u k h.0 r fs negative))

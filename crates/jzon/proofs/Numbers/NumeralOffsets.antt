@@ -1,5 +1,5 @@
 -- The digits of a number and its exponent, by offsets of the text's bytes.
-use Rattle.jzon_base.proofs.Common.{◌≡◌, ◌∙◌, ℕ, suc, ◌+◌, ◌<◌, ◌≤◌, Bool, true, false, cond, ◌==◌, List, [], ◌∷◌, ◌++◌}
+use Rattle.jzon_base.proofs.Common.{◌≡◌, ◌∙◌, ℕ, zero, suc, ◌+◌, ◌<◌, ◌≤◌, Bool, true, false, cond, ◌==◌, List, [], ◌∷◌, ◌++◌}
 use Rattle.jzon_base.proofs.Common.{length, take, drop, get_or, refl, sym, ap, subst, arith, eqb-true, not, chars}
 use Rattle.jzon_base.proofs.Common.{IsUtf8, is_ascii_digit, IsCharBoundary, All, take_while, prefix_len, ne_eqb}
 use Rattle.jzon_base.proofs.Common.{nat_tests, drop-drop, length-drop, All-nil, All-cons, prefix_len-le-length}
@@ -45,10 +45,20 @@ record Begins (bs ds : List ℕ) : Type 0 where
   digits : AreDigits ds
   all : All IsDigit ds
   utf8 : IsUtf8 (drop (length ds) bs)
+  from : (n : ℕ) → n ≤ length ds
+      → IsUtf8 (drop n bs) × (chars (drop n bs) ≡ drop n ds ++ chars (drop (length ds) bs))
+
+begins_none : (bs : List ℕ) → IsUtf8 bs → Begins bs []
+begins_none bs u =
+    record { split = refl; digits = tt; all = All-nil IsDigit; utf8 = u; from = none }
+  where
+    none : (n : ℕ) → n ≤ 0 → IsUtf8 (drop n bs) × (chars (drop n bs) ≡ drop n [] ++ chars bs)
+    none zero le = (u, refl)
+    none (suc n) le = absurd (omega arith)
 
 begins_one : (b : ℕ) (bs : List ℕ) (v : Bool) (n : ℕ) → is_ascii_digit b ≡ v → IsUtf8 (b ∷ bs)
     → (IsUtf8 bs → Begins bs (take n bs)) → Begins (b ∷ bs) (take (cond v (1 + n) 0) (b ∷ bs))
-begins_one b bs false n e u ih = record { split = refl; digits = tt; all = All-nil IsDigit; utf8 = u }
+begins_one b bs false n e u ih = begins_none (b ∷ bs) u
 begins_one b bs true n e u ih =
     let k = ih (IsUtf8-past_ascii b bs u (digit_is_ascii b e)) in
     let m : suc n ≡ 1 + n = omega arith in
@@ -57,10 +67,16 @@ begins_one b bs true n e u ih =
       digits = (e, k.digits);
       all = All-cons IsDigit b (take n bs) (digit_bounds b e) k.all;
       utf8 = k.utf8;
+      from = later k;
     })
+  where
+    later : Begins bs (take n bs) → (j : ℕ) → j ≤ suc (length (take n bs)) → IsUtf8 (drop j (b ∷ bs))
+        × (chars (drop j (b ∷ bs)) ≡ drop j (b ∷ take n bs) ++ chars (drop (length (take n bs)) bs))
+    later k zero le = (u, chars-ascii b bs u (digit_is_ascii b e) ∙ ap (λ cs. b ∷ cs) k.split)
+    later k (suc j) le = k.from j (omega arith)
 
 begins : (bs : List ℕ) → IsUtf8 bs → Begins bs (take_while is_ascii_digit bs)
-begins [] u = record { split = refl; digits = tt; all = All-nil IsDigit; utf8 = u }
+begins [] u = begins_none [] u
 begins (b ∷ bs) u = begins_one b bs (is_ascii_digit b) (prefix_len is_ascii_digit bs) refl u (λ w. begins bs w)
 
 -- The digits ds are at offset i of the text, and no digit follows them.
@@ -70,6 +86,9 @@ pub record AreDigitsAt (bs : List ℕ) (i : ℕ) (ds : List ℕ) : Type 0 where
   pub all : All IsDigit ds
   pub boundary : IsCharBoundary bs (i + length ds)
   pub next : NextFails is_ascii_digit (chars (drop (i + length ds) bs))
+  -- from the digit at position n on
+  pub from : (n : ℕ) → n ≤ length ds → IsCharBoundary bs (i + n)
+      × (chars (drop (i + n) bs) ≡ drop n ds ++ chars (drop (i + length ds) bs))
 
 pub digits_stand : (bs : List ℕ) (i : ℕ) (ds : List ℕ) → IsUtf8 bs → IsCharBoundary bs i
     → ds ≡ take_while is_ascii_digit (drop i bs) → AreDigitsAt bs i ds
@@ -93,6 +112,11 @@ digits_stand bs i ds u at e =
       boundary = at_end;
       next = next_fails is_ascii_digit bs (i + length ds) digit_is_ascii u at_end
           (stops_run is_ascii_digit bs i (length ds) n);
+      from = λ j le.
+          let after : drop j (drop i bs) ≡ drop (i + j) bs = drop-drop j i bs in (
+            IsCharBoundary-from_drop bs (i + j) (omega (arith, at_end.0)) (subst IsUtf8 after (k.from j le).0),
+            ap chars (sym after) ∙ (k.from j le).1 ∙ ap (λ z. drop j ds ++ chars z) after_value,
+          );
     }
 
 -- ---- exponents

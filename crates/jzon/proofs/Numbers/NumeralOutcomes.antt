@@ -1,5 +1,5 @@
 -- The outcome of the rest of the text after each part of a number: another part, the end, or a missing digit.
-use Rattle.jzon_base.proofs.Common.{◌≡◌, ◌∙◌, ℕ, ◌+◌, ◌<◌, ◌≤◌, List, [], ◌∷◌, ◌++◌, length, drop, Bool, true, false}
+use Rattle.jzon_base.proofs.Common.{◌≡◌, suc, ◌∙◌, ℕ, ◌+◌, ◌<◌, ◌≤◌, List, [], ◌∷◌, ◌++◌, length, drop, Bool, true, false}
 use Rattle.jzon_base.proofs.Common.{◌==◌, Option, None, refl, sym, ap, arith, true≢false, append-nil, IsTrue, ⊤}
 use Rattle.jzon_base.proofs.Common.{is_ascii_digit, eqb-false}
 use Rattle.jzon_base.specs.Digits.{kept_len, dropped, kept_fraction}
@@ -106,8 +106,8 @@ pub record ReadsWhole (r : Reading) (d : ℕ) (ws cs rest : List ℕ) : Type 0 w
   reads : (fs : Frames) (negative : Bool) (gs : List ℕ) → dropped ws gs < 32768
       → outcome r cs (numeral fs negative (after_first_digit (d == 48) d)) ≡ outcome r rest (numeral fs negative place)
   pub refuses : (fs : Frames) (negative : Bool) (gs : List ℕ) → 32768 ≤ dropped ws gs
-      → (left : List ℕ)
-      × (outcome r cs (numeral fs negative (after_first_digit (d == 48) d)) ≡ refused (limit digit) left)
+      → outcome r cs (numeral fs negative (after_first_digit (d == 48) d))
+      ≡ refused (limit digit) (drop (kept_len (ws ++ gs) + 32767) ws ++ rest)
 
 pub reads_zero : (r : Reading) (d : ℕ) (cs : List ℕ) → (d == 48) ≡ true → ReadsWhole r d (48 ∷ []) cs cs
 reads_zero r d cs zero = record {
@@ -134,11 +134,11 @@ reads_digits r d es rest some ok stop = record {
   next = stop;
   reads = λ fs negative gs few. ap (λ t. outcome r (es ++ rest) (numeral fs negative (after_first_digit t d))) some
       ∙ read_whole r fs negative (d ∷ []) es rest gs ok few;
-  refuses = λ fs negative gs many. (
-    drop (kept_len (d ∷ es ++ gs) + 32766) es ++ rest,
-    ap (λ t. outcome r (es ++ rest) (numeral fs negative (after_first_digit t d))) some
-        ∙ refuse_whole r fs negative (d ∷ []) es rest gs (kept_len (d ∷ es ++ gs) + 32766) ok many (omega arith),
-  );
+  refuses = λ fs negative gs many.
+      let n : suc (kept_len (d ∷ es ++ gs) + 32766) ≡ kept_len (d ∷ es ++ gs) + 32767 = omega arith in
+      ap (λ t. outcome r (es ++ rest) (numeral fs negative (after_first_digit t d))) some
+      ∙ refuse_whole r fs negative (d ∷ []) es rest gs (kept_len (d ∷ es ++ gs) + 32766) ok many (omega arith)
+      ∙ ap (λ k. refused (limit digit) (drop k (d ∷ es) ++ rest)) n;
 }
 
 module _ (r : Reading) (fs : Frames) (negative : Bool) where

@@ -79,6 +79,7 @@ hex_missing r at done bs n u i h text here none =
 -- The part of the four digits from `start` on up to byte i has been read, in each state that reads digits.
 pub record HexRead (bs : List ℕ) (start i u : ℕ) : Type 0 where
   pub boundary : IsCharBoundary bs i
+  pub last : start < i → IsCharBoundary bs (i - 1)
   pub value : u ≡ fold add_hex 0 (slice_range bs start i)
   pub small : u < 16 ^ (i - start)
   pub same : (r : Reading) (at : ℕ → ℕ → State) (done : ℕ → Move) → ReadsHex r at done
@@ -87,6 +88,7 @@ pub record HexRead (bs : List ℕ) (start i u : ℕ) : Type 0 where
 pub hex_begun : (bs : List ℕ) (start : ℕ) → IsCharBoundary bs start → HexRead bs start start 0
 hex_begun bs start here = record {
   boundary = here;
+  last = λ lt. absurd (omega arith);
   value = let e : start - start ≡ 0 = omega arith in rw e refl;
   small = let e : start - start ≡ 0 = omega arith in rw e (omega arith);
   same = λ r at done h. ap (λ n. hex_left r at done bs n 0 start) (let e : 4 ≡ 4 - (start - start) = omega arith in e);
@@ -117,6 +119,7 @@ pub hex_more : (bs : List ℕ) (start i u : ℕ) → HexRead bs start i u → Is
     → i < length bs → is_ascii_hexdigit (get_or bs i 0) ≡ true → HexRead bs start (i + 1) (add_hex u (get_or bs i 0))
 hex_more bs start i u k text low high lt e = record {
   boundary = IsCharBoundary-after_ascii bs i text lt (hex_is_ascii _ e);
+  last = λ lt. subst (IsCharBoundary bs) (let n : i ≡ i + 1 - 1 = omega arith in n) k.boundary;
   value = hex_value_more bs start i u k.value low lt;
   small =
       let n : i + 1 - start ≡ (i - start) + 1 = omega arith in

@@ -1,17 +1,17 @@
 -- The error for a fault at an offset of a text, from the bytes before and after the offset.
-use Rattle.jzon_base.proofs.Common.{◌≡◌, ℕ, ◌+◌, ◌-◌, ◌≤◌, refl, List, [], ◌∷◌, ◌++◌, length, take, drop, get_or, sym}
+use Rattle.jzon_base.proofs.Common.{◌≡◌, ◌⊎◌, inl, inr, ℕ, ◌+◌, ◌-◌, ◌≤◌, refl, List, [], ◌∷◌, ◌++◌, length, take, drop, get_or, sym}
 use Rattle.jzon_base.proofs.Common.{ap, subst, ◌∙◌, arith, take-append-drop, chars, IsUtf8}
 use Rattle.jzon_base.proofs.Common.{slice_range, IsCharBoundary, drop-drop, chars-append, IsUtf8-take, IsUtf8-between}
 use Rattle.jzon_base.proofs.Common.{get_or-append_seam, take-append_seam}
 use Rattle.std.proofs.lemmas.List.{length-append}
 use Rattle.jzon_base.specs.declared.error.Error.{Error}
 use Rattle.jzon_base.specs.declared.error.Error.TheVariants.{DuplicateKey}
-use Rattle.jzon.specs.Spelling.{duplicate}
-use Rattle.jzon.specs.Fault.{limit, line, column, error_at}
+use Rattle.jzon.specs.Spelling.{deep, pair, digit, duplicate}
+use Rattle.jzon.specs.Fault.{limit, line, column, error_at, reported_offset}
 use Rattle.jzon.specs.Private.Machine.{Reports, Outcome, meant, refused, left_at, fault_here}
-use Rattle.jzon.specs.Private.Stops.{IsAtBoundary, error_between, reported_error}
+use Rattle.jzon.specs.Private.Stops.{IsAtBoundary, stop_offset, error_between, reported_error}
 use Rattle.jzon.specs.declared.fault.Stop.{Stop}
-use Rattle.jzon.specs.declared.fault.Stop.TheVariants.{At, Duplicate}
+use Rattle.jzon.specs.declared.fault.Stop.TheVariants.{Limit, Surrogates, At, Duplicate}
 
 -- the characters of a text are those before a boundary and those after it
 pub chars_split : (bs : List ℕ) (i : ℕ) → IsUtf8 bs → IsCharBoundary bs i
@@ -19,27 +19,52 @@ pub chars_split : (bs : List ℕ) (i : ℕ) → IsUtf8 bs → IsCharBoundary bs 
 chars_split bs i u at = ap chars (sym (take-append-drop i bs))
     ∙ chars-append (take i bs) (drop i bs) (IsUtf8-take bs i u at)
 
--- the error is that of this outcome of a text
-abbrev Tells : List ℕ → Error → Outcome → Type 0
-Tells t e (meant v) = ⊥
-Tells t e (refused f rest) = e ≡ error_at t (length t - length rest) f
+-- the number of characters before a boundary
+pub before_boundary : (bs : List ℕ) (i : ℕ) → IsUtf8 bs → IsCharBoundary bs i
+    → length (chars (take i bs)) ≡ length (chars bs) - left_at bs i
+before_boundary bs i u at =
+    omega (arith, ap length (chars_split bs i u at), length-append (chars (take i bs)) (chars (drop i bs)))
 
-tells_between : (f rest : List ℕ) → Tells (f ++ rest) (error_between f rest) (fault_here rest)
-tells_between f [] = refl
+-- a fault that is reported where it is, with the rest of the text from there on
+pub reports_limit : (bs : List ℕ) (i : ℕ) (o : Outcome) → IsUtf8 bs → IsCharBoundary bs i
+    → (o ≡ refused (limit deep) (chars (drop i bs))) ⊎ (o ≡ refused (limit digit) (chars (drop i bs)))
+    → Reports bs (Limit i) o
+reports_limit bs i o u at (inl q) = subst (Reports bs (Limit i)) (sym q) (at, refl, before_boundary bs i u at)
+reports_limit bs i o u at (inr q) = subst (Reports bs (Limit i)) (sym q) (at, refl, before_boundary bs i u at)
+
+pub reports_pair : (bs : List ℕ) (i : ℕ) (o : Outcome) → IsUtf8 bs → IsCharBoundary bs i
+    → o ≡ refused (limit pair) (chars (drop i bs)) → Reports bs (Surrogates i) o
+reports_pair bs i o u at q = subst (Reports bs (Surrogates i)) (sym q) (at, refl, before_boundary bs i u at)
+
+-- the offset of what is reported is a boundary
+pub boundary_of : (bs : List ℕ) (e : Stop) (o : Outcome) → Reports bs e o → IsAtBoundary bs e
+boundary_of bs e (meant v) h = absurd h
+boundary_of bs e (refused f rest) h = h.0
+
+-- the error, and the number of characters before its offset, are those of this outcome of a text
+abbrev Tells : List ℕ → ℕ → Error → Outcome → Type 0
+Tells t n e (meant v) = ⊥
+Tells t n e (refused f rest) = (e ≡ error_at t (length t - length rest) f)
+    × (n ≡ reported_offset (length t - length rest) f)
+
+tells_between : (f rest : List ℕ) → Tells (f ++ rest) (length f) (error_between f rest) (fault_here rest)
+tells_between f [] = (refl, omega (arith, length-append f []))
 tells_between f (c ∷ rest) =
     let n : length (f ++ (c ∷ rest)) - length (c ∷ rest) ≡ length f = omega (arith, length-append f (c ∷ rest)) in
     let here : get_or (f ++ (c ∷ rest)) (length f) 0 ≡ c = get_or-append_seam f c rest 0 in
     let prefix : take (length f) (f ++ (c ∷ rest)) ≡ f = take-append_seam f (c ∷ rest) in
-    rw (n, here, prefix) refl
+    (rw (n, here, prefix) refl, sym n)
 
-reports_by : (bs : List ℕ) (e : Stop) (o : Outcome) → IsAtBoundary bs e → Tells (chars bs) (reported_error bs e) o → Reports bs e o
+reports_by : (bs : List ℕ) (e : Stop) (o : Outcome) → IsAtBoundary bs e
+    → Tells (chars bs) (length (chars (take (stop_offset e) bs))) (reported_error bs e) o → Reports bs e o
 reports_by bs e (meant v) at h = h
-reports_by bs e (refused f rest) at h = (at, h)
+reports_by bs e (refused f rest) at h = (at, h.0, h.1)
 
 pub reports_at : (bs : List ℕ) (i : ℕ) → IsUtf8 bs → IsCharBoundary bs i
     → Reports bs (At i) (fault_here (chars (drop i bs)))
 reports_at bs i u at = reports_by bs (At i) (fault_here (chars (drop i bs))) at
-    (subst (λ t. Tells t (error_between (chars (take i bs)) (chars (drop i bs))) (fault_here (chars (drop i bs))))
+    (subst (λ t. Tells t (length (chars (take i bs))) (error_between (chars (take i bs)) (chars (drop i bs)))
+    (fault_here (chars (drop i bs))))
     (sym (chars_split bs i u at)) (tells_between (chars (take i bs)) (chars (drop i bs))))
 
 -- the rest from an offset on is the characters between and the rest after them
@@ -55,7 +80,7 @@ left_after bs i j u from to le =
     let whole = chars-append run (drop j bs) text in
     rw split (omega (arith, ap length whole, length-append (chars run) (chars (drop j bs))))
 
-prefix_of : (f rest : List ℕ) (i : ℕ) → i ≡ length f → take i (f ++ rest) ≡ f
+pub prefix_of : (f rest : List ℕ) (i : ℕ) → i ≡ length f → take i (f ++ rest) ≡ f
 prefix_of f rest i e = ap (λ k. take k (f ++ rest)) e ∙ take-append_seam f rest
 
 -- a repeated key is reported at its opening quote, at offset i
@@ -72,4 +97,4 @@ reports_duplicate bs i j u from to le =
     ≡ chars (take i bs) =
     ap (take (length (chars bs) - left_at bs j - (left_at bs i - left_at bs j))) split
     ∙ prefix_of (chars (take i bs)) (chars (drop i bs)) _ at in
-    (from, ap (λ f. DuplicateKey (line f) (column f)) (sym prefix))
+    (from, ap (λ f. DuplicateKey (line f) (column f)) (sym prefix), sym at)

@@ -1,6 +1,6 @@
 -- From the automaton's outcome of a text to what reports it; that is never `Memory`, which is returned if an allocation
 -- fails.
-use Rattle.jzon_base.proofs.Common.{◌≡◌, ◌≢◌, inr, ℕ, suc, ◌-◌, ◌<◌, ◌≤◌, List, [], ◌∷◌, ◌++◌, length, take, drop}
+use Rattle.jzon_base.proofs.Common.{◌≡◌, ◌≢◌, inl, inr, ℕ, suc, ◌-◌, ◌<◌, ◌≤◌, List, [], ◌∷◌, ◌++◌, length, take, drop}
 use Rattle.jzon_base.proofs.Common.{drop-cons, get_or, refl, sym, ap, subst, ◌∙◌, arith, Result, Ok, Err, Contains}
 use Rattle.jzon_base.proofs.Common.{chars, IsErrAnd, IsUtf8, MatchResult, IsCharBoundary, get_or-append_seam}
 use Rattle.jzon_base.proofs.Common.{IsUtf8-drop, IsCharBoundary-before_ascii, length-drop, nil_from_length}
@@ -14,7 +14,7 @@ use Rattle.jzon.specs.Private.Machine.{State, Outcome, meant, refused, last, fro
 use Rattle.jzon.specs.Private.Machine.{ReportsUnlessMemory}
 use Rattle.jzon.specs.declared.fault.Stop.{Stop}
 use Rattle.jzon.specs.declared.fault.Stop.TheVariants.{Memory, Limit}
-use Rattle.jzon.proofs.Texts.FaultOffsets.{chars_split}
+use Rattle.jzon.proofs.Texts.FaultOffsets.{chars_split, reports_limit}
 use Rattle.jzon.proofs.Texts.AsciiRuns.{chars-ascii}
 use Rattle.jzon.proofs.Texts.StepsByByte.{from_end}
 
@@ -34,8 +34,9 @@ reported_end r bs i p e le h = reported bs e (from r bs p i) (fault_here (chars 
     (from_end r bs i p le ∙ h ∙ sym (ap fault_here
     (ap chars (nil_from_length (drop i bs) (omega (arith, length-drop i bs))) ∙ chars-nil)))
 
-pub reported_deep : (bs rest : List ℕ) (o : Outcome) → o ≡ refused (limit deep) rest → ReportsUnlessMemory bs Limit o
-reported_deep bs rest o q = reported bs Limit o (refused (limit deep) rest) q (tt, refl)
+pub reported_deep : (bs : List ℕ) (i : ℕ) (o : Outcome) → IsUtf8 bs → IsCharBoundary bs i
+    → o ≡ refused (limit deep) (chars (drop i bs)) → ReportsUnlessMemory bs (Limit i) o
+reported_deep bs i o u at q = inr (reports_limit bs i o u at (inl q))
 
 -- ---- memory
 
@@ -44,7 +45,7 @@ error_at_memory : (t : List ℕ) (i : ℕ) (f : Fault) → OutOfMemory ≡ error
 error_at_memory t i (limit deep) e = cc
 error_at_memory t i _ e = cc
 
-reports_no_memory : (bs : List ℕ) (o : Outcome) → Reports bs Memory o → ⊥
+pub reports_no_memory : (bs : List ℕ) (o : Outcome) → Reports bs Memory o → ⊥
 reports_no_memory bs (meant v) h = h
 reports_no_memory bs (refused f rest) h = error_at_memory (chars bs) (length (chars bs) - length rest) f h.1
 

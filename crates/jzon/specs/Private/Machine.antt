@@ -1,6 +1,6 @@
 -- The automaton: maps the rest of a text to a value or a fault, one character at a time. A `State` has no tree and no
 -- whitespace, only the contents so far of the open containers, and how far a token is read.
-use Rattle.std.specs.Prelude.{◌≡◌, ◌⊎◌, ℕ, zero, suc, ◌+◌, ◌-◌, ◌*◌, if◌then◌else◌, List, [], ◌∷◌, ◌++◌, length, drop}
+use Rattle.std.specs.Prelude.{◌≡◌, ◌⊎◌, ℕ, zero, suc, ◌+◌, ◌-◌, ◌*◌, if◌then◌else◌, List, [], ◌∷◌, ◌++◌, length, take, drop}
 use Rattle.std.specs.Prelude.{Bool, true, false, ◌&&◌, ◌==◌, Option, Some, None, Result, Ok, Err, MatchResult, chars}
 use Rattle.std.specs.Prelude.{encode_utf8}
 use Rattle.std.specs.Char.{is_ascii_hexdigit, digit_value}
@@ -17,13 +17,13 @@ use Rattle.jzon.specs.Grammar.{is_simple}
 use Rattle.jzon.specs.Spelling.{Breach, deep, pair, digit, duplicate, breach_if, onto, drops_too_many, keeps_too_many}
 use Rattle.jzon.specs.Spelling.{deep_if}
 use Rattle.jzon.specs.Meaning.{number_of, unescaped, pair_char}
-use Rattle.jzon.specs.Fault.{Fault, limit, character, error_at}
+use Rattle.jzon.specs.Fault.{Fault, limit, character, error_at, reported_offset}
 use Rattle.jzon.specs.Private.Classes.{Class, whitespace, digits, minus_char, plus_char, point, letter_e, quote}
 use Rattle.jzon.specs.Private.Classes.{opens_array, closes_array, opens_object, closes_object, comma, colon}
 use Rattle.jzon.specs.Private.Classes.{begins_null, begins_true, begins_false, class_of, NumberState, after_minus}
 use Rattle.jzon.specs.Private.Classes.{zero_read, whole, pointed, fraction, after_letter, signed_exponent, exponent}
 use Rattle.jzon.specs.Private.Classes.{after_first_digit}
-use Rattle.jzon.specs.Private.Stops.{IsAtBoundary, reported_error}
+use Rattle.jzon.specs.Private.Stops.{IsAtBoundary, stop_offset, reported_error}
 use Rattle.jzon.specs.declared.fault.Stop.{Stop}
 use Rattle.jzon.specs.declared.fault.Stop.TheVariants.{Memory}
 
@@ -359,6 +359,7 @@ abbrev pub Reports : List ℕ → Stop → Outcome → Type 0
 Reports bytes e (meant v) = ⊥
 Reports bytes e (refused f rest) =
     IsAtBoundary bytes e × (reported_error bytes e ≡ error_at (chars bytes) (length (chars bytes) - length rest) f)
+    × (length (chars (take (stop_offset e) bytes)) ≡ reported_offset (length (chars bytes) - length rest) f)
 
 -- either that error is returned, or an allocation failed
 abbrev pub ReportsUnlessMemory : List ℕ → Stop → Outcome → Type 0

@@ -1,5 +1,7 @@
 -- What the rest of a text leads to after the first digit of a number, in any reading and inside any open containers.
 use Rattle.std.specs.Prelude.{◌≡◌, ℕ, ◌+◌, List, Bool, chars, drop, slice_index}
+use Rattle.jzon_base.specs.declared.digits.DigitFault.{DigitFault}
+use Rattle.jzon_base.specs.declared.digits.DigitFault.TheVariants.{Whole, Fraction}
 use Rattle.jzon.specs.Reading.{Reading}
 use Rattle.jzon.specs.declared.fault.Stop.TheVariants.{Limit}
 use Rattle.jzon.specs.Private.Machine.{Frames, Outcome, State, numeral_after_first, from, fault_here, Reports}
@@ -19,7 +21,12 @@ abbrev pub MissesDigit : List ℕ → ℕ → ℕ → Type 0
 MissesDigit text start end = (r : Reading) (fs : Frames) (negative : Bool)
     → after_first r fs negative text start ≡ fault_here (chars (drop end text))
 
--- the number has more digits than one may have
-abbrev pub HasTooMany : List ℕ → ℕ → Type 0
-HasTooMany text start = (r : Reading) (fs : Frames) (negative : Bool)
-    → Reports text Limit (after_first r fs negative text start)
+-- the offset of the digit that exceeds a limit, where so many digits are before the point
+abbrev pub digit_offset : ℕ → ℕ → DigitFault → ℕ
+digit_offset start whole (Whole i) = start + i
+digit_offset start whole (Fraction i) = start + whole + 1 + i
+
+-- the number has more digits than one may have, and the first one too many is at offset `at`
+abbrev pub HasTooMany : List ℕ → ℕ → ℕ → Type 0
+HasTooMany text start at = (r : Reading) (fs : Frames) (negative : Bool)
+    → Reports text (Limit at) (after_first r fs negative text start)

@@ -1,6 +1,6 @@
 //! From files, bytes and lines to values, and what to do with an error.
 
-use jzon::{Error, JsonValue, Reading, Result};
+use jzon::{Error, JsonValue, LocatedError, Place, Reading, Result};
 use std::alloc::Global;
 use std::{fmt, fs, io};
 
@@ -66,13 +66,28 @@ pub fn parse_flat(alloc: Global, text: &str) -> Result<JsonValue> {
     }
 }
 
-/// The message of an error, and the line of the text that it speaks of.
-pub fn explained(alloc: Global, text: &str, error: &Error) -> Result<String> {
-    let line = match error.line() {
-        Some(number) => text.lines().nth(number.saturating_sub(1)).unwrap_or(""),
-        None => "",
+/// What to print for an error of a file: where it is, the line, and a caret below the character. A
+/// long line is cut round the column.
+pub fn explained(alloc: Global, file: &str, text: &str, located: &LocatedError) -> Result<String> {
+    let error = &located.error;
+    let Some(Place { line, column, .. }) = located.place else {
+        return Ok(format!(in alloc; "{file}: {error}")?);
     };
-    Ok(format!(in alloc; "{error}\n{line}")?)
+    let faulty = text.lines().nth(line.saturating_sub(1)).unwrap_or("");
+    let skipped = column.saturating_sub(41);
+    let shown = from_character(faulty, skipped);
+    let after = from_character(shown, 80);
+    let shown = shown.strip_suffix(after).unwrap_or(shown);
+    let indent = " ".repeat(alloc, column.saturating_sub(skipped).saturating_sub(1))?;
+    Ok(format!(in alloc; "{file}:{line}:{column}: {error}\n{shown}\n{indent}^")?)
+}
+
+/// What follows this many characters.
+fn from_character(text: &str, count: usize) -> &str {
+    match text.char_indices().nth(count) {
+        Some((offset, _)) => text.get(offset..).unwrap_or(""),
+        None => "",
+    }
 }
 
 /// Whether nothing but whitespace of JSON is in the text.

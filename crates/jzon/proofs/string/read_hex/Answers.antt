@@ -1,4 +1,4 @@
-use Rattle.jzon_base.proofs.Common.{◌+◌, ◌*◌, ◌-◌, ◌<◌, ◌∙◌, List, ℕ, ap, arith, drop, length, refl, take, take_rest}
+use Rattle.jzon_base.proofs.Common.{◌≡◌, subst, IsCharBoundary, ◌+◌, ◌*◌, ◌-◌, ◌<◌, ◌∙◌, List, ℕ, ap, arith, drop, length, refl, take, take_rest}
 use Rattle.jzon.proofs.Strings.HexDigits.{HexRead, code_reads, second_code_reads, hex_at_once, hex_end, hex_small}
 use Rattle.jzon.proofs.Strings.HexDigits.{hex_spelled}
 use Rattle.jzon.proofs.string.read_hex.Goals.{In-Some-Some-Some-Some}
@@ -55,6 +55,11 @@ returns-in-Some-Some-Some-Some-clause-small c =
 pub returns-in-Some-Some-Some-Some-clause-boundary : goal.returns-in-Some-Some-Some-Some-clause-boundary
 returns-in-Some-Some-Some-Some-clause-boundary c =
     (read (goal.at.returns-in-Some-Some-Some-Some-clause-boundary c).In-Some-Some-Some-Some).boundary
+
+pub returns-in-Some-Some-Some-Some-clause-last : goal.returns-in-Some-Some-Some-Some-clause-last
+returns-in-Some-Some-Some-Some-clause-last c =
+    subst (IsCharBoundary c.args.source.now) (let n : c.args.start + 4 - 1 ≡ c.args.start + 3 = omega arith in n)
+    ((read (goal.at.returns-in-Some-Some-Some-Some-clause-last c).In-Some-Some-Some-Some).last (omega arith))
 
 pub returns-in-Some-Some-Some-Some-clause-first : goal.returns-in-Some-Some-Some-Some-clause-first
 returns-in-Some-Some-Some-Some-clause-first c r role bs =

@@ -1,4 +1,4 @@
-use Rattle.jzon_base.proofs.Common.{◌≡◌, ◌<◌, ℕ, true, ◌+◌, ◌*◌, ◌∙◌, ap, refl, sym, subst, arith, nat_tests}
+use Rattle.jzon_base.proofs.Common.{◌-◌, IsCharBoundary, ◌≡◌, ◌<◌, ℕ, true, ◌+◌, ◌*◌, ◌∙◌, ap, refl, sym, subst, arith, nat_tests}
 use Rattle.jzon_base.proofs.Common.{is_ascii_hexdigit, digit_value}
 use Rattle.jzon.specs.Private.Machine.{Reports}
 use Rattle.jzon.proofs.Containers.FrameViews.{byte_within}
@@ -70,3 +70,8 @@ pub returns-clause-second : goal.returns-clause-second
 returns-clause-second c r role bs h =
     hex_end r c.args.source.now c.args.start c.loop-index.index c.loop-index.unit _ _ c.loop-index.invariant
     (second_code_reads r role bs h) (omega arith)
+
+pub returns-clause-last : goal.returns-clause-last
+returns-clause-last c =
+    subst (IsCharBoundary c.args.source.now) (let n : c.loop-index.index - 1 ≡ c.args.start + 3 = omega arith in n)
+    (c.loop-index.invariant.last (omega arith))

@@ -1,10 +1,12 @@
 use Rattle.jzon_base.proofs.Common.{◌≡◌, ◌+◌, ◌++◌, ◌∙◌, ◌&&◌, false, refl, ap, sym, subst, arith, drop, encode_utf8}
-use Rattle.jzon_base.proofs.Common.{chars, false_from_ne_true, iff_false, err_from_is_err_and}
+use Rattle.jzon_base.proofs.Common.{IsCharBoundary, chars, false_from_ne_true, iff_false, err_from_is_err_and}
 use Rattle.jzon_base.proofs.Common.{IsCharBoundary-after_ascii}
-use Rattle.jzon.specs.declared.fault.Stop.TheVariants.{Surrogates}
+use Rattle.jzon.specs.Spelling.{pair}
+use Rattle.jzon.specs.Fault.{limit}
+use Rattle.jzon.proofs.Texts.FaultOffsets.{reports_pair}
 use Rattle.jzon.specs.Grammar.{is_high, is_low}
 use Rattle.jzon.specs.Meaning.{pair_char}
-use Rattle.jzon.specs.Private.Machine.{string, between, move_pair, outcome_on, from, Reports}
+use Rattle.jzon.specs.Private.Machine.{string, between, move_pair, outcome_on, refused, from, Reports}
 use Rattle.jzon.proofs.Strings.Escapes.{second_begins, second_digits_boundary, second_stops, second_u_stops}
 use Rattle.jzon.proofs.string.read_second.Goals as goal
 
@@ -65,9 +67,11 @@ returns-in-None-clause-outcome c r role bs =
     let digits = second_begins r role bs text c.args.first c.args.start c.utf8.source c.requires
     (c.has_byte.ensures.0 c.if-not-has_byte.false)
     (c.has_byte-2.ensures.0 c.if-not-has_byte-2.false) in
-    subst (Reports text Surrogates)
-    (sym (digits ∙ c.in_ok-unit.ensures.second r role bs c.args.first
+    let at : c.args.start + 2 + 3 ≡ c.args.start + 5 = omega arith in
+    reports_pair text (c.args.start + 5) _ c.utf8.source
+    (subst (IsCharBoundary text) at c.in_ok-unit.ensures.last)
+    (digits ∙ c.in_ok-unit.ensures.second r role bs c.args.first
     ∙ ap (λ t. outcome_on (move_pair t role bs c.args.first c.in_ok-unit.unit)
     (λ p. from r text p (c.args.start + 2 + 4))
-    rest) no_pair))
-    (tt, refl)
+    rest) no_pair
+    ∙ ap (λ n. refused (limit pair) (chars (drop n text))) at)

@@ -38,10 +38,10 @@ returns-then-depth-from-clause-outcome c fs mark depth =
     let lt : m.index < length m.source.now = omega (arith, m.boundary.0) in
     let other : next_byte m ≢ closer b = λ f. c.if-first-closer.false
     (c.peek-first.ensures ∙ f ∙ sym c.closer.ensures) in
-    reported_on Limit
+    reported_on c.too_deep.result
     (at_first (goal.at.returns-then-depth-from-clause-outcome c).After-bump fs mark)
-    (item_too_deep b m fs lt other
-    (omega (arith, depth, c.if-depth-from.true, c.from.ensures, c.depth.ensures.depth)))
+    (rw c.too_deep.ensures (item_too_deep b m fs lt other
+    (omega (arith, depth, c.if-depth-from.true, c.from.ensures, c.depth.ensures.depth))))
 
 pub returns-clause-outcome : goal.returns-clause-outcome
 returns-clause-outcome c fs mark depth =

@@ -1,0 +1,53 @@
+//! An error with its place in the text (docs/RULES.md, "Errors").
+//!
+//! In clauses, `IsPlaceOf bytes i p` says that the place `p` is that of the character `i`, and
+//! `located_text` is the text that a `LocatedError` is printed as.
+
+ghost use Rattle.std.specs.Prelude.{◌≡◌, Some};
+ghost use Rattle.jzon_base.specs.declared.error.Error.{Error as Reason};
+ghost use Rattle.jzon.specs.Located.{located_text};
+
+use jzon_base::error::Error;
+use std::fmt;
+
+/// A place in a text: a character, or the end.
+#[derive(Clone, Copy, Debug, PartialEq, Eq)]
+pub struct Place {
+    /// The bytes before it.
+    pub offset: usize,
+    /// The line, counted from 1.
+    pub line: usize,
+    /// The column, counted from 1 in characters.
+    pub column: usize,
+}
+
+/// Why `parse_located` rejects a text, and where. `place` is `None` only for `OutOfMemory`.
+#[derive(Debug, PartialEq, Eq, Drop)]
+pub struct LocatedError {
+    pub error: Error,
+    pub place: Option<Place>,
+}
+
+/// The words of the error, and `at (L:K)` if these don't have it: `Unexpected end of JSON at (1:5)`.
+impl fmt::Display for LocatedError {
+    ghost output = { λ e. Some (located_text e) };
+
+    fn fmt<W: fmt::Write>(&self, f: &mut fmt::Formatter<W>) -> fmt::Result {
+        write!(f, "{}", self.error)?;
+        match (self.place, self.error.line()) {
+            (Some(place), None) => write!(f, " at ({}:{})", place.line, place.column),
+            _ => Ok(()),
+        }
+    }
+}
+
+impl std::error::Error for LocatedError {}
+
+/// The error alone, so that `?` returns it.
+impl From<LocatedError> for Error {
+    ghost from_gives = { λ l e. e ≡ l.error };
+
+    fn from(located: LocatedError) -> Error {
+        located.error
+    }
+}
