@@ -1,13 +1,14 @@
 //! What is read, copied and changed.
 
 use crate::common::*;
-use jzon::{Reading, parse_as};
+use jzon::{Reading, parse_as, parse_located};
 use jzon_test_support::{DOCUMENT, DUMP};
 
 #[derive(Clone, Copy)]
 enum Changed {
     Parse(&'static str),
     ParseStrictly(&'static str),
+    ParseLocated(&'static str),
     ParseAndPush(&'static str),
     ParseAndInsert(&'static str),
     Clone,
@@ -23,10 +24,11 @@ enum Changed {
 }
 
 pub fn parse_strictly(alloc: Global, text: &str) -> Result<JsonValue> {
-    match Reading::new(true, 512) {
-        Some(reading) => parse_as(alloc, text, &reading),
-        None => Ok(JsonValue::Null),
-    }
+    parse_as(alloc, text, &Reading::STRICT)
+}
+
+fn parse_at_places(alloc: Global, text: &str) -> Result<JsonValue> {
+    Ok(parse_located(alloc, text, &Reading::USUAL)?)
 }
 
 fn take_string(value: &mut JsonValue, alloc: Global) -> Result<()> {
@@ -63,6 +65,7 @@ impl Call for Changed {
         match self {
             Changed::Parse(text) => set(value, parse(alloc, text)),
             Changed::ParseStrictly(text) => set(value, parse_strictly(alloc, text)),
+            Changed::ParseLocated(text) => set(value, parse_at_places(alloc, text)),
             Changed::ParseAndPush(text) => set(value, parse_and_push(alloc, text)),
             Changed::ParseAndInsert(text) => set(value, parse_and_insert(alloc, text)),
             Changed::Clone => copy(value, alloc),
@@ -152,6 +155,7 @@ const CHANGED: &[Row<Changed>] = rows! {
         SIXTEEN_IN_ANOTHER, 12)
     (Changed::Parse(ARRAY_IN_OBJECT), "parse of an array in an object", "null", ARRAY_IN_OBJECT, 5)
     (Changed::ParseStrictly(DOCUMENT), "strict parse_as", "null", DUMP, 7)
+    (Changed::ParseLocated(DOCUMENT), "parse_located", "null", DUMP, 6)
     (Changed::ParseStrictly(TWENTY_KEYS), "strict parse_as of twenty keys", "null", TWENTY_KEYS, 6)
     // A container that is the whole text takes the blocks of the stacks, which have room for eight:
     // so nothing is allocated for what is added.
