@@ -7,12 +7,12 @@ ghost use Rattle.jzon.specs.Generator.{insertion};
 ghost use Rattle.jzon.specs.StyleLaws.{IsStyle-any};
 ghost use Rattle.jzon.specs.Writing.{any_style, IsOrder};
 
-use crate::common::{Tested, Tester, expect, expect_bytes, expect_eq, is_text};
+use crate::common::{Tested, Tester, expect, expect_bytes, expect_eq, expect_trouble, is_text};
 use jzon::codegen::{Generator, Layout, TextGenerator, write_json, write_object};
 use jzon::object::Object;
 use jzon::{Error, JsonValue, parse};
 use jzon_test_support::{
-    RUNS_MAX, Refusals, SlowWriter, Trouble, keys_by_hash, keys_of_one_hash, object_text,
+    RUNS_MAX, Refusals, SlowWriter, Trouble, joined, keys_by_hash, keys_of_one_hash, object_text,
 };
 use std::alloc::{AllocError, Global};
 use std::cell::Cell;
@@ -322,13 +322,18 @@ fn is_out_of_memory(outcome: io::Result<()>) -> bool {
     outcome.is_err_and(|error| error.kind() == ErrorKind::OutOfMemory)
 }
 
-/// Each call fails in this layout after the start of the array.
-fn expect_failed_order(rt: &impl Tester, value: &JsonValue, layout: Own<'_>) -> Tested {
+/// Each call fails in this layout after these bytes.
+fn expect_failed_order(
+    rt: &impl Tester,
+    value: &JsonValue,
+    layout: Own<'_>,
+    before: &str,
+) -> Tested {
     for call in CALLS {
         let (bytes, outcome) = call.print(rt.alloc(), value, layout)?;
         expect(rt, "the error", is_out_of_memory(outcome));
         let is_lent = !matches!(call, Call::LayOut);
-        expect_bytes(rt, &bytes, if is_lent { "[" } else { "" });
+        expect_bytes(rt, &bytes, if is_lent { before } else { "" });
     }
     Ok(())
 }
@@ -349,7 +354,38 @@ fn propagates_a_failed_order(rt: HostRuntime) -> Tested {
     expect(&rt, "write_json", is_out_of_memory(result));
     expect_eq(&rt, "two faults", generator.faults(), 2);
     expect_bytes(&rt, generator.get_writer(), "[");
-    expect_failed_order(&rt, &value, layout)
+    expect_failed_order(&rt, &value, layout, "[")
+}
+
+/// The last byte of a full buffer, bytes of the next, and the last before the object.
+const LATE_CALLS: &[usize] = &[1, 1024, 1025, 2007];
+
+/// `order` fails after 2,007 bytes, of which no call loses any. Where the writer fails before, its
+/// error is returned.
+#[test]
+fn propagates_a_late_failed_order(rt: HostRuntime) -> Tested {
+    let alloc = rt.alloc();
+    let string = joined(alloc, &[("\"", 1), ("p", 1000), ("\",", 1)])?;
+    let before = joined(alloc, &[("[", 1), (string.as_str(), 2)])?;
+    let value = parse(
+        alloc,
+        joined(alloc, &[(before.as_str(), 1), ("{}]", 1)])?.as_str(),
+    )?;
+    let asked = Cell::new(0);
+    let layout = in_order(alloc, Order::Failing, &asked);
+    expect_failed_order(&rt, &value, layout, before.as_str())?;
+    for call in LATE_CALLS {
+        let mut writer = SlowWriter::new(alloc, *call, BROKEN);
+        expect_trouble(&rt, value.write_layout(&mut writer, layout), BROKEN)?;
+        expect_eq(&rt, "the calls", writer.calls, *call);
+        let is_prefix = before.as_bytes().starts_with(&writer.bytes);
+        expect(
+            &rt,
+            "a prefix",
+            is_prefix && writer.bytes.len() == *call - 1,
+        );
+    }
+    Ok(())
 }
 
 /// A layout that owns memory. A space is before each element for each open container.

@@ -207,6 +207,86 @@ fn writes_the_whole_text(rt: HostRuntime) -> Tested {
     expect_whole(&rt, &wide(rt.alloc())?)
 }
 
+/// What is at the end of a full buffer: strings, numbers, escapes, keys and lines; and its text in
+/// lines.
+const PIECES: &[(&str, &str)] = &[
+    ("\"abc\"", "\"abc\""),
+    (
+        "\"0123456789abcdef0123456789abcdefg\"",
+        "\"0123456789abcdef0123456789abcdefg\"",
+    ),
+    ("-123456789.5", "-123456789.5"),
+    ("1.5e99", "1.5e99"),
+    ("\"a\\nb\\u0001\"", "\"a\\nb\\u0001\""),
+    ("{\"key\":[1,{}]}", "{\n  \"key\": [\n   1,\n   {}\n  ]\n }"),
+    ("{\"a\\tb\":null}", "{\n  \"a\\tb\": null\n }"),
+];
+
+/// How many entries are before the last two, and the lengths of the compact text.
+const ROUND_A_BUFFER: &[(usize, usize, usize)] = &[(0, 1000, 1051), (1, 2040, 2057)];
+
+/// A value whose compact text has this length, and ends with the piece.
+fn ending(alloc: Global, entries: usize, len: usize, piece: &(&str, &str)) -> Result<Sample> {
+    let entry = joined(alloc, &[("\"j\":\"", 1), ("p", 1000), ("\",", 1)])?;
+    let line = joined(alloc, &[("\n \"j\": \"", 1), ("p", 1000), ("\",", 1)])?;
+    let before = entries.saturating_mul(1007).saturating_add(13);
+    let rest = len.saturating_sub(before).saturating_sub(piece.0.len());
+    let parts = [
+        ("{", 1),
+        (entry.as_str(), entries),
+        ("\"k\":\"", 1),
+        ("p", rest),
+        ("\",\"v\":", 1),
+        (piece.0, 1),
+        ("}", 1),
+    ];
+    let lines = [
+        ("{", 1),
+        (line.as_str(), entries),
+        ("\n \"k\": \"", 1),
+        ("p", rest),
+        ("\",\n \"v\": ", 1),
+        (piece.1, 1),
+        ("\n}", 1),
+    ];
+    let compact = joined(alloc, &parts)?;
+    Ok(Sample {
+        value: parse(alloc, compact.as_str())?,
+        compact,
+        pretty: joined(alloc, &lines)?,
+        spaces: 1,
+    })
+}
+
+/// The last bytes of a full buffer, the first of the next, and the last of the text.
+const CALLS_ROUND_A_BUFFER: &[usize] = &[1023, 1024, 1025, 2048, 2049, usize::MAX];
+
+fn expect_stops_round_a_buffer(rt: &impl Tester, sample: &Sample) -> Tested {
+    for how in HOWS {
+        for call in CALLS_ROUND_A_BUFFER {
+            let call = (*call).min(how.text(sample).len());
+            expect_stop(rt, sample, *how, BROKEN, call)?;
+        }
+    }
+    Ok(())
+}
+
+/// `write`, `write_pretty` and `write_layout` collect 1,024 bytes.
+#[test]
+fn writes_texts_round_a_full_buffer(rt: HostRuntime) -> Tested {
+    for (entries, first, end) in ROUND_A_BUFFER {
+        for len in *first..*end {
+            for piece in PIECES {
+                let sample = ending(rt.alloc(), *entries, len, piece)?;
+                expect_eq(&rt, piece.0, sample.compact.len(), len);
+                expect_whole(&rt, &sample)?;
+                expect_stops_round_a_buffer(&rt, &sample)?;
+            }
+        }
+    }
+    Ok(())
+}
+
 /// The bytes of three calls were written, and the error is the writer's.
 #[test]
 fn stops_at_the_fourth_call(rt: HostRuntime) -> Tested {
