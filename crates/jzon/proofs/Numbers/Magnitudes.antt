@@ -5,7 +5,7 @@ use Rattle.jzon_base.proofs.Common.{◌∷◌, ◌++◌, length, drop, get_or, p
 use Rattle.jzon_base.proofs.Common.{true≢false, length-append, chars, IsUtf8, IsTrue, is_ascii_digit, IsCharBoundary}
 use Rattle.jzon_base.proofs.Common.{All, take_while, ne_eqb, nat_tests, All-nil, All-cons, IsCharBoundary-before_ascii}
 use Rattle.jzon_base.proofs.Common.{IsCharBoundary-after_ascii}
-use Rattle.jzon_base.specs.Digits.{IsDigit, kept_len, dropped, kept_fraction, read_number}
+use Rattle.jzon_base.specs.Digits.{IsDigit, kept_len, dropped, kept_fraction, number_read}
 use Rattle.jzon_base.specs.DigitLimits.{AreFewEnough, IsFirstTooMany}
 use Rattle.jzon_base.specs.declared.digits.DigitFault.{DigitFault}
 use Rattle.jzon_base.specs.declared.digits.DigitFault.TheVariants.{Whole, Fraction}
