@@ -13,7 +13,6 @@ pub(crate) fn byte_at(source: &str, index: usize) -> u8
     }
 }
 
-/// Whether the byte at `index` is `byte`.
 pub(crate) fn has_byte(source: &str, index: usize, byte: u8) -> bool
     ensures { IsTrue result
         ↔ ((index < length source.now) × (slice_index source.now index ≡ byte)) }
@@ -22,8 +21,7 @@ pub(crate) fn has_byte(source: &str, index: usize, byte: u8) -> bool
     index < bytes.len() && bytes[index] == byte
 }
 
-/// Whether the four bytes from `index` on are `four`. They are compared at once, as one `u32`. The
-/// clause `all` is the converse of the other clauses.
+/// Whether the four bytes from `index` on are `four`. They are compared at once, as one `u32`.
 #[inline(always)]
 pub(crate) fn has_four(source: &str, index: usize, four: [u8; 4]) -> bool
     requires { index ≤ length source.now }

@@ -1,7 +1,6 @@
 //! An error with its place in the text (docs/RULES.md, "Errors").
 //!
-//! In clauses, `IsPlaceOf bytes i p` says that the place `p` is that of the character `i`, and
-//! `located_text` is the text that a `LocatedError` is printed as.
+//! In clauses, `located_text` is the text that a `LocatedError` is printed as.
 
 ghost use Rattle.std.specs.Prelude.{◌≡◌, Some};
 ghost use Rattle.jzon_base.specs.declared.error.Error.{Error as Reason};

@@ -1,22 +1,5 @@
-//! Reads numbers (RFC 8259, section 6; docs/RULES.md, "Numbers").
-//!
-//! In clauses, `from r bytes p i` is the outcome of the automaton (docs/ARCHITECTURE.md) that
-//! starts in the state `p` at byte `i`, under the reading `r`. `Reports bytes e o` says that the
-//! stop `e` becomes the error of the outcome `o`.
-//!
-//! States: `numeral_after_first fs negative d` is after the first digit `d` of a number, inside the
-//! containers `fs`; `numeral fs negative (after_letter ws ds l)` is after the letter `l` of an
-//! exponent, with the digits `ws` before the point and `ds` after it; `after_value fs v` is after
-//! the value `v`. From the first of these states, `LeadsTo source start end p` leads to the state
-//! `p` at byte `end`; `MissesDigit source start end` to the fault that a digit is missing at `end`;
-//! and `HasTooMany source start` to the fault that there are too many digits. `Leads` says of a
-//! result that an `Ok` leads to the state after the number, and that an `Err` reports the fault.
-//!
-//! `AreFewEnough` says that no limit on digits is exceeded, and `IsFirstTooMany whole fraction f`
-//! that the digit `f` is the first to exceed one. `digits_number ds` is the number that the digits
-//! `ds` spell, and `fold add_digit n ds` the number `n` with these digits after its own. The
-//! definition `number_read` is the number that a sign, the digits before and after the point and an
-//! exponent mean.
+//! Reads numbers (RFC 8259, section 6; docs/RULES.md, "Numbers"). Clauses speak of an automaton
+//! (docs/ARCHITECTURE.md, "How the parser is proved").
 
 ghost use Rattle.std.specs.Prelude.{◌≡◌, ℕ, pos, List, [], ◌∷◌, ◌<◌, ◌≤◌, ◌+◌, ◌%◌, ◌^◌, ◌++◌, length, drop, chars, not, Bool, true, false, ◌==◌, ◌↔◌, IsTrue, IfOk, slice_index, if◌then◌else◌};
 ghost use Rattle.std.specs.Char.{is_ascii_digit};
@@ -134,8 +117,7 @@ fn spelling_at(source: &str, start: usize) -> Spelling<'_>
     }
 }
 
-/// The digits up to the exponent, which is empty in the result. Three clauses say what follows
-/// them: an exponent's letter, no letter, or a missing digit.
+/// The digits up to the exponent, which is empty in the result.
 #[inline(always)]
 fn magnitude_at(source: &str, start: usize) -> Spelling<'_>
     requires within { start < length source.now }

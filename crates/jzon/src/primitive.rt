@@ -55,7 +55,6 @@ pub(crate) fn put_primitive<T: Target>(
         b'"' => {
             let spelled = read_string(source, start + 1, buffer)?;
             let (content, wide) = spelled.text(source, start + 1, buffer);
-            // `wide` begins with `content`: from there a short string is copied faster.
             put_string_value(alloc, content, wide, target)?;
             Ok(spelled.end)
         }

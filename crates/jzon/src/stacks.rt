@@ -263,9 +263,8 @@ impl Stacks {
         Ok(())
     }
 
-    /// Adds the primitive at `start`, whose first byte is `first` (0 at the end of the text).
-    /// Returns the offset after it. A string with escapes is unescaped in `buffer`. At `Err` the
-    /// stacks are as they were.
+    /// Adds the primitive at `start`, as `put_primitive` does. At `Err` the stacks are as they
+    /// were.
     #[inline(always)]
     pub(crate) fn push_primitive(
         &mut self,
@@ -288,8 +287,7 @@ impl Stacks {
 
     /// Adds a key to the innermost container, which is an object. Returns whether the key is
     /// rejected instead: a strict reading rejects one that the object has. `wide` begins with
-    /// `name`: from there a short key is copied by a fixed number of bytes, which is faster. After
-    /// an error the stacks are unspecified.
+    /// `name` (`Spelled::text`). After an error the stacks are unspecified.
     #[inline(always)]
     pub(crate) fn push_key(&mut self, name: &str, wide: &str) -> Result<bool, AllocError>
         requires object { self.old.innermost.kind ≡ ContainerKind.Object }
@@ -418,9 +416,8 @@ impl Stacks {
         Ok(None)
     }
 
-    /// Ends the innermost container, which has a value for each key. Its value is added to the
-    /// container around it; if there is none, the value is returned. After an error the stacks are
-    /// unspecified.
+    /// Ends the innermost container, which has a value for each key, as `close_with` does with its
+    /// value.
     #[inline(always)]
     pub(crate) fn close(&mut self) -> Result<Option<JsonValue>, AllocError>
         requires { HasAllValues self.old.innermost.kind self.old.innermost }

@@ -84,8 +84,8 @@ pub(crate) fn put_string_value<T: Target>(
     Ok(())
 }
 
-/// Reads the string whose opening quote is before `start`. A string without escapes is not copied,
-/// and leaves the buffer as it was. After an error the buffer is unspecified.
+/// Reads the string whose opening quote is before `start`. A string without escapes leaves the
+/// buffer as it was. After an error the buffer is unspecified.
 #[inline(always)]
 pub(crate) fn read_string(source: &str, start: usize, buffer: &mut String) -> Result<Spelled>
     requires { IsCharBoundary source.now start }
@@ -250,7 +250,6 @@ fn read_hex(source: &str, start: usize) -> Result<u32>
             return Ok(((a * 16 + b) * 16 + c) * 16 + d);
         }
     }
-    // Fewer than four bytes are left, or one of the four isn't a digit: this call finds which.
     read_hex_by_digits(source, start)
 }
 

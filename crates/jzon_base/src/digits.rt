@@ -3,13 +3,6 @@
 //!
 //! Take the digits before the point and those after it as one list. Its longest prefix that spells
 //! a number below 2^64 is kept: it is the mantissa. The digits after this prefix are dropped.
-//!
-//! In clauses, `digits_number ds` is the number that the digits `ds` spell, and `fold add_digit n
-//! ds` the number `n` with these digits after its own. `kept ds` are the kept digits, `dropped` is
-//! how many digits before the point are dropped, and `kept_fraction` how many after it are kept.
-//! `AreFewEnough` says that these two are at most 32767 and 32768, and `IsFirstTooMany` that a
-//! `DigitFault` is the first digit beyond. `signed positive n` is `n` or `-n`, `clamp` the nearest
-//! `i16`, and `number_read` the number with the kept digits and the clamped exponent.
 
 ghost use Rattle.std.specs.Prelude.{◌≡◌, ℕ, pos, ◌+◌, ◌%◌, ◌<◌, ◌≤◌, ◌^◌, ◌-ℤ◌, ◌+ℤ◌, ◌++◌, length, take, min, IfErr, OkIff};
 ghost use Rattle.std.specs.Char.{is_ascii_digit};
@@ -73,8 +66,7 @@ pub fn read_scanned(
         return Ok(Number::from_parts_unchecked(positive, number, exponent));
     }
     let (number, dropped, kept_fraction) = kept_prefix(whole, fraction);
-    // The first digit that is too many: before the point it follows the kept digits and
-    // `MAX_DROPPED` dropped ones, and after the point `MAX_KEPT_FRACTION` kept ones.
+    // The first digit too many follows the kept ones and `MAX_DROPPED` dropped ones.
     if dropped > MAX_DROPPED {
         return Err(DigitFault::Whole(whole.len() - dropped + MAX_DROPPED));
     }
@@ -107,7 +99,6 @@ pub fn scan(bytes: &[u8], before: u64) -> (usize, u64)
     (len + count, number)
 }
 
-/// `scan`, one byte at a time.
 fn scan_by_bytes(bytes: &[u8], before: u64) -> (usize, u64)
     ensures count { result.0 ≡ prefix_len is_ascii_digit bytes.now }
     ensures number { (n : ℕ) → before ≡ n % 2 ^ 64
@@ -167,9 +158,8 @@ fn longest_prefix(before: u64, digits: &[u8]) -> (u64, usize)
     (number, digits.len())
 }
 
-/// The exponent of the number: the written one, plus the dropped digits before the point, minus the
-/// kept ones after it, added exactly and then clamped. `written` are the digits of the written
-/// exponent, none if there is no exponent.
+/// The written exponent, plus the dropped digits before the point, minus the kept ones after it,
+/// clamped. `written` is empty if there is no exponent.
 fn clamped_exponent(dropped: usize, kept_fraction: usize, positive: bool, written: &[u8]) -> i16
     requires digits { All IsDigit written.now }
     requires dropped { dropped ≤ 32767 }

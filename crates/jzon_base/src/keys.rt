@@ -1,8 +1,6 @@
 //! The keys of an object in the order in which they were put, and the position of each
-//! (docs/RULES.md, "Objects"). Up to `LINEAR_MAX` keys that have no index are compared one by one.
-//! From the next key on, and still after removals, `Runs` has an entry of hash and position for
-//! each key, in few runs in the order of hashes and texts; each is asked by binary search, so that
-//! the time doesn't depend on which hashes the keys have.
+//! (docs/RULES.md, "Objects"). Up to `LINEAR_MAX` keys are compared one by one. From the next key
+//! on, and still after removals, there is an index (`runs`).
 ghost use Rattle.std.specs.Prelude.{◌≡◌, ◌<◌, ◌++◌, ◌∷◌, ◌==◌, [], length, remove, slice_get, List, ℕ, IfOk, IfErr, OnOk, OnErr, MatchOption, None, Some, vec_len, vec_capacity};
 ghost use Rattle.std.specs.List.{position, zip, IsDistinct};
 ghost use Rattle.std.specs.Result.{result_ok};
@@ -51,7 +49,6 @@ impl Model for Keys {
 /// Where the index entry of a missing key belongs, if the keys have an index.
 #[derive(Drop)]
 struct Spot {
-    /// The hash of the key.
     hash: u64,
     /// The position of the entry in the last run.
     at: usize,
@@ -209,7 +206,6 @@ impl Keys {
         ensures merged { IfOk result (λ r. zip r.0 r.1.items
             ≡ put_each (zip keys.items values.items)) }
     {
-        // `entries::of` returns `None` if a key repeats.
         if LINEAR_MAX < keys.len()
             && let Some(entries) = entries::of(alloc, keys.as_slice())?
         {

@@ -114,9 +114,8 @@ impl<V> Pairs<V> {
         Pairs::boxed(alloc, keys, values)
     }
 
-    /// The entries of keys, and of as many values. `known` is the filter or the index by which a
-    /// strict reading found exactly these keys distinct, so an index isn't made again. The clause
-    /// says `put_each`, as that of `from_entries` does; of distinct keys it makes no other entries.
+    /// The entries of distinct keys and as many values, with the index that `known` has, if it has
+    /// one. The clause says `put_each`, as that of `from_entries`.
     pub fn from_known(
         alloc: Global,
         keys: Vec<Key>,
@@ -348,8 +347,7 @@ impl<V> Pairs<V> {
         }
     }
 
-    /// Removes the entry at a position, and returns its value. The others keep their order. Takes
-    /// no memory.
+    /// As `Contents::remove_at`.
     fn remove_at(&mut self, position: usize) -> V
         requires { position < length self.old }
         ensures value { slice_get (values_of self.old) position ≡ Some result }

@@ -42,7 +42,6 @@ impl Object {
         ensures memory { IsOkUnless result Error.OutOfMemory }
     {
         let values = copy_items(alloc, self.pairs.values())?;
-        // The copied keys, with these values.
         let pairs = self.pairs.with_values(alloc, values)?;
         Ok(Object { pairs })
     }
@@ -66,8 +65,8 @@ fn copy_items(alloc: Global, items: &[JsonValue]) -> Result<Vec<JsonValue>>
 }
 
 /// Adds a copy of the value if it is stored inline (null, a boolean, a number or a `Short`), and
-/// returns whether it is; else `copies` stays as it is. There must be room for the copy, which is
-/// made in place, because a value that is returned is moved.
+/// returns whether it is. There must be room for the copy, which is made in place, because a value
+/// that is returned is moved.
 #[inline(always)]
 fn push_inline(copies: &mut Vec<JsonValue>, value: &JsonValue) -> bool
     requires { vec_len copies.old < vec_capacity copies.old }

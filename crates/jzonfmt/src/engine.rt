@@ -175,7 +175,6 @@ fn write_line<W: Write>(writer: &mut W, value: &JsonValue, layout: Layout) -> io
     util::write_bytes(writer, b"\n")
 }
 
-/// Writes the text of the value in the layout.
 fn write_text<W: Write>(writer: &mut W, value: &JsonValue, layout: Layout) -> io::Result<()>
     ensures { WritesWhole (text layout (view value.now)) result (W.contents writer.old)
         (W.contents writer.new) }

@@ -7,7 +7,7 @@ ghost use Rattle.std.specs.Str.{bytes_eq};
 use super::filter::Filter;
 use crate::key::Key;
 
-/// Up to how many keys are few: they have no index, and one filter is enough for them.
+/// Up to how many keys are few: one filter is enough for them.
 pub const LINEAR_MAX: usize = 32;
 
 /// Up to how many keys are compared with each other to see whether one repeats. Of more keys, a
@@ -54,8 +54,7 @@ pub fn has_name(keys: &[Key], name: &str) -> bool
     keys.iter().any(|key| are_equal(key.as_str(), name))
 }
 
-/// Whether no key repeats. A key is compared with those before it only if its bit is set in the
-/// filter that has theirs.
+/// `are_distinct` of more than `COMPARED_MAX` keys.
 #[inline(never)]
 fn are_distinct_by_filter(keys: &[Key]) -> bool
     ensures { IsTrue result ↔ IsDistinct bytes_eq keys.now }
@@ -69,8 +68,7 @@ fn are_distinct_by_filter(keys: &[Key]) -> bool
     true
 }
 
-/// Whether no key repeats. Up to `COMPARED_MAX` keys are compared with each other, and more by a
-/// filter.
+/// Whether no key repeats.
 #[inline(always)]
 pub fn are_distinct(keys: &[Key]) -> bool
     ensures { IsTrue result ↔ IsDistinct bytes_eq keys.now }

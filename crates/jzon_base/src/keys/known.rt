@@ -1,9 +1,8 @@
 //! Whether a name repeats a key before it, for keys that are in a vector of the caller. A strict
 //! reading asks this before it adds a key.
 //!
-//! Up to `LINEAR_MAX` keys have a filter: keys are compared only if it says that one may repeat.
-//! More have an index, as in `Keys`, which becomes the object's index: so n keys take about
-//! n (log n)^2 comparisons, whatever the keys are.
+//! Up to `LINEAR_MAX` keys have a filter. More have an index, which becomes the object's index: so
+//! n keys take about n (log n)^2 comparisons, whatever the keys are.
 ghost use Rattle.std.specs.Prelude.{◌≡◌, ◌++◌, ◌∷◌, [], true, false, is_some, IfOk, OnErr, List, ℕ};
 ghost use Rattle.std.specs.List.{position};
 ghost use Rattle.std.specs.Str.{bytes_eq};
@@ -29,8 +28,7 @@ pub enum KnownKeys {
 }
 
 /// Whether there is a key of this name. If not, its index entry is added, and the caller puts the
-/// key after these. The error is a failed allocation, and then the index is empty or that of these
-/// keys.
+/// key after these. After an error the index is empty or that of these keys.
 fn has_or_indexes(
     alloc: Global,
     keys: &[Key],
@@ -63,8 +61,7 @@ impl KnownKeys {
     }
 
     /// Whether there is a key of this name. If not, the name is known from now on, and the caller
-    /// puts its key after these. The error is a failed allocation, and then exactly these keys are
-    /// known, as before.
+    /// puts its key after these. After an error exactly these keys are known, as before.
     pub fn has_or_adds(
         &mut self,
         alloc: Global,

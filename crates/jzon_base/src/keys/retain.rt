@@ -16,7 +16,7 @@ fn keeps<V: Drop, F: FnMut(&str, &mut V) -> bool>(keep: &mut F, key: &str, value
     keep(key, value)
 }
 
-/// Keeps the keys and the values for which `keep` returns `true`, in their order. Takes no memory.
+/// As `retain`, without the index.
 fn retain_entries<V: Drop, F: FnMut(&str, &mut V) -> bool>(
     keys: &mut Vec<Key>,
     values: &mut Vec<V>,

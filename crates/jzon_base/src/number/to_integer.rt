@@ -1,6 +1,5 @@
-//! Numbers as integers (docs/RULES.md, "Integer readings"). Only a number of exponent 0 is one, its
-//! mantissa with its sign: `1.0`, `5e2` and `100e-2` aren't. For these there is
-//! `as_exact_fixed_point_u64(0)`.
+//! Numbers as integers (docs/RULES.md, "Integer readings"). For `1.0`, `5e2` and `100e-2`, which
+//! aren't, there is `as_exact_fixed_point_u64(0)`.
 
 ghost use Rattle.std.specs.Prelude.{◌<◌, ◌^◌, FitsSigned};
 ghost use Rattle.std.specs.Int.{w8, w16, w32, w64};

@@ -56,8 +56,6 @@ impl<V> Contents<V> {
         ensures err { OnErr result (self.new ≡ self.old) }
         ensures present { OnErr result (find name.now self.old ≡ None) }
     {
-        // `put` returns the position of a key that is there. Else it puts the key, and makes room
-        // for its value.
         match self.keys.put(alloc, &mut self.values, name)? {
             Some(position) => self.values[position] = value,
             None => self.values.push_reserved(value),
@@ -76,8 +74,6 @@ impl<V> Contents<V> {
         ensures err { OnErr result (self.new ≡ self.old) }
         ensures present { OnErr result (find name.now self.old ≡ None) }
     {
-        // `put` returns the position of a key that is there. Else it puts the key, and makes room
-        // for its value.
         match self.keys.put(alloc, &mut self.values, name)? {
             Some(position) => Ok(position),
             None => {

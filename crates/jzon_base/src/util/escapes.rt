@@ -39,7 +39,6 @@ static ESCAPE_LETTERS: [u8; 96] = [
     0, 0, 0, 0, 0, 0, 0, 0, 0, 0, 0, 0, b'\\', 0, 0, 0,
 ];
 
-/// Stands for a byte that is no digit.
 const NONE: u8 = 255;
 
 /// The value of each byte that is a hexadecimal digit, and `NONE` for all others.

@@ -11,7 +11,6 @@ use std::simd::prelude::*;
 /// How many bytes are compared at once.
 const BLOCK: usize = 32;
 
-/// Half a block.
 const HALF: usize = 16;
 
 /// The length of the longest prefix of bytes that a string of a text has unescaped: from 32 on, and

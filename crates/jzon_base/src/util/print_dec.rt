@@ -66,8 +66,7 @@ pub fn push_digits(bytes: &mut Vec<u8>, positive: bool, mantissa: u64, exponent:
 }
 
 /// Adds the sign and the digits of a number, with a point before the last `places`, if a digit
-/// precedes it, and returns whether it did. Otherwise nothing is added. `ilog10` plus 1 is the
-/// number of digits.
+/// precedes it, and returns whether it did. Otherwise nothing is added.
 #[inline(always)]
 fn push_decimal(bytes: &mut Vec<u8>, positive: bool, n: u64, places: usize) -> bool
     requires some { 0 < n }
@@ -121,8 +120,7 @@ pub fn put_digits(
     )
 }
 
-/// Puts the sign and the digits of a number, with a point before the last `places`, if a digit
-/// precedes it, and returns the end. Otherwise nothing is put, and the offset is returned.
+/// As `push_decimal`, at an offset: returns the end, or the offset if nothing is put.
 #[inline(always)]
 fn put_decimal(room: &mut [u8], start: usize, positive: bool, n: u64, places: usize) -> usize
     requires some { 0 < n }

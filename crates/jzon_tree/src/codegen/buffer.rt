@@ -28,7 +28,6 @@ pub(crate) struct Buffer {
 impl Buffer {
     ghost use Rattle.jzon_tree.specs.Private.Buffer.{buffer_items};
 
-    /// Holds nothing.
     #[inline(always)]
     pub(super) fn new() -> Buffer
         ensures items { buffer_items result ≡ [] }
@@ -40,7 +39,6 @@ impl Buffer {
         }
     }
 
-    /// How many bytes are held.
     #[inline(always)]
     pub(super) fn len(&self) -> usize
         ensures value { result ≡ self.now.len }
@@ -57,7 +55,6 @@ impl Buffer {
         BUFFER_LEN - self.len
     }
 
-    /// The bytes.
     #[inline(always)]
     pub(super) fn as_slice(&self) -> &[u8]
         ensures { result.now ≡ buffer_items self.now }
@@ -65,7 +62,6 @@ impl Buffer {
         &self.bytes[..self.len]
     }
 
-    /// Holds nothing any more.
     #[inline(always)]
     pub(super) fn clear(&mut self)
         ensures items { buffer_items self.new ≡ [] }
@@ -86,7 +82,6 @@ impl Buffer {
         self.len = end;
     }
 
-    /// Adds the byte, or nothing.
     #[inline(always)]
     pub(super) fn put_byte(&mut self, byte: u8) -> bool
         ensures done { IsTrue result → buffer_items self.new ≡ buffer_items self.old ++ byte ∷ [] }
@@ -101,7 +96,7 @@ impl Buffer {
         true
     }
 
-    /// Adds a string of at most 32 bytes in quotes if it needs no escape, or nothing.
+    /// Adds a string of at most 32 bytes in quotes if it needs no escape.
     #[inline(always)]
     pub(super) fn put_string(&mut self, string: &[u8]) -> bool
         ensures done { IsTrue result → buffer_items self.new
@@ -116,7 +111,7 @@ impl Buffer {
         true
     }
 
-    /// Adds such a string in quotes with a colon and, if `wide`, a space, or nothing.
+    /// Adds such a string in quotes with a colon and, if `wide`, a space.
     #[inline(always)]
     pub(super) fn put_key(&mut self, key: &[u8], wide: bool) -> bool
         ensures done { IsTrue result → buffer_items self.new
@@ -134,7 +129,7 @@ impl Buffer {
         true
     }
 
-    /// Adds the text of a common number (`put_digits`), or nothing.
+    /// Adds the text of a common number (`put_digits`).
     #[inline(always)]
     pub(super) fn put_number(&mut self, number: &Number) -> bool
         ensures done { IsTrue result → buffer_items self.new
@@ -154,7 +149,7 @@ impl Buffer {
         true
     }
 
-    /// Adds a newline and `spaces` spaces if there are fewer than 8, or nothing.
+    /// Adds a newline and `spaces` spaces if there are fewer than 8.
     #[inline(always)]
     pub(super) fn put_line(&mut self, spaces: u128) -> bool
         ensures done { IsTrue result → buffer_items self.new

@@ -1,9 +1,4 @@
 //! A writer with a buffer on the stack.
-//!
-//! In clauses, `left b` are the bytes in the buffer that the writer didn't take yet. `held
-//! W.contents S.start b` are the name of the reference to the writer (`ghost_name`), its bytes, and
-//! then those in the buffer. They are known only if the writer's bytes are, and are at least
-//! `S.start`. So a call that keeps them, or adds to them, kept the writer and its bytes.
 
 ghost use Rattle.std.specs.Prelude.{◌≡◌, ℕ, ◌+◌, ◌≤◌, [], length, take, MatchOption, OnErr, OnOk, IfNone, IfSome, IsErr, IsSome};
 ghost use Rattle.std.specs.Io.KnownBytes.{Appends, Keeps};

@@ -14,39 +14,34 @@ use crate::codegen::strings::{BY_ENDS_ROOM, push_short};
 use jzon_base::number::Number;
 use std::io::Write;
 
-/// A writer that adds a byte, a string, a key, a number or the start of a line at once if it fits.
-/// `Buffered` alone is one. By this trait `TextGenerator` names no struct with a ghost field, beside
-/// whose `&mut` the borrow checker admits no other type arguments.
+/// A writer with the `put_..` of `Destination`. `Buffered` alone is one. By this trait
+/// `TextGenerator` names no struct with a ghost field, beside whose `&mut` the borrow checker
+/// admits no other type arguments.
 pub(crate) trait Outlet: Write {
-    /// Adds the byte, or nothing.
     fn put_byte(&mut self, byte: u8) -> bool
         ensures done { IsTrue result → Adds (Just (byte ∷ []))
             (Self.Write.contents self.old) (Self.Write.contents self.new) }
         ensures left { result ≡ false → Self.Write.contents self.new
             ≡ Self.Write.contents self.old };
 
-    /// Adds the string in quotes, escaped, or nothing.
     fn put_string(&mut self, string: &[u8]) -> bool
         ensures done { IsTrue result → Adds (Just (quoted string.now))
             (Self.Write.contents self.old) (Self.Write.contents self.new) }
         ensures left { result ≡ false → Self.Write.contents self.new
             ≡ Self.Write.contents self.old };
 
-    /// Adds the key in quotes, escaped, with its colon and, if `wide`, a space, or nothing.
     fn put_key(&mut self, key: &[u8], wide: bool) -> bool
         ensures done { IsTrue result → Adds (Just (quoted key.now ++ colon_text wide))
             (Self.Write.contents self.old) (Self.Write.contents self.new) }
         ensures left { result ≡ false → Self.Write.contents self.new
             ≡ Self.Write.contents self.old };
 
-    /// Adds the text of the number, `null` for NaN, or nothing.
     fn put_number(&mut self, number: &Number) -> bool
         ensures done { IsTrue result → Adds (Just (written_text number.now))
             (Self.Write.contents self.old) (Self.Write.contents self.new) }
         ensures left { result ≡ false → Self.Write.contents self.new
             ≡ Self.Write.contents self.old };
 
-    /// Adds a newline and `spaces` spaces, or nothing.
     fn put_line(&mut self, spaces: u128) -> bool
         ensures done { IsTrue result → Adds (Just (10 ∷ replicate spaces 32))
             (Self.Write.contents self.old) (Self.Write.contents self.new) }

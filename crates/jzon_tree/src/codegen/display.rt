@@ -98,7 +98,6 @@ fn show_string<W: fmt::Write>(text: &str, f: &mut fmt::Formatter<W>) -> fmt::Res
             break;
         };
         let mut room = [0; ESCAPE_MAX_LEN];
-        // The escape is put at the end of `room`, from `at` on.
         let at = put_escape(&mut room, *byte);
         show_bytes(&room[at..], f)?;
         rest = others;

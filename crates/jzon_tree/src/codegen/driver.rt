@@ -82,7 +82,6 @@ pub(crate) fn write_value<G: Generator>(
         JsonValue::Short(text) => g.try_write_string(text.as_str(), slot),
         JsonValue::String(text) => g.try_write_string(text.as_str(), slot),
         JsonValue::Number(number) => {
-            // Only for the proof, which learns that the number is within range.
             see_number(number);
             g.try_write_number(number, slot)
         }

@@ -240,7 +240,6 @@ pub trait Generator {
                 break;
             };
             let mut room = [0; ESCAPE_MAX_LEN];
-            // The escape is put at the end of `room`, from `at` on.
             let at = put_escape(&mut room, *byte);
             self.try_write(&room[at..], slot)?;
             rest = others;

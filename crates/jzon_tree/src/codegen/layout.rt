@@ -158,7 +158,7 @@ pub(super) fn send_line<W: Write>(
 }
 
 /// Adds a newline and `spaces` spaces if there are fewer than 8 of them and there is room for 8
-/// bytes, and returns whether it did. Otherwise nothing is added.
+/// bytes, and returns whether it did.
 #[inline(always)]
 pub(super) fn push_line(bytes: &mut Vec<u8>, spaces: u128) -> bool
     ensures done { IsTrue result → bytes.new.items ≡ bytes.old.items ++ 10 ∷ replicate spaces 32 }
@@ -186,8 +186,7 @@ pub(super) fn put_spaces(room: &mut [u8], start: usize)
     room[start..start + LINE_ROOM].copy_from_slice(&NEWLINE_AND_SPACES[..LINE_ROOM]);
 }
 
-/// Writes `spaces` spaces, 512 at a time. Cold, because few lines begin with more than 63. An error
-/// is stored in the slot.
+/// Writes `spaces` spaces, 512 at a time. Cold, because few lines begin with more than 63.
 #[cold]
 #[inline(never)]
 fn send_spaces<W: Write>(writer: &mut W, spaces: u128, slot: &mut ErrorSlot) -> SlotResult<()>

@@ -18,8 +18,8 @@ const BY_ENDS_MAX_LEN: usize = 32;
 /// The room that such a string takes with its quotes, at most.
 pub(super) const BY_ENDS_ROOM: usize = BY_ENDS_MAX_LEN + 2;
 
-/// Adds a string of at most 32 bytes in quotes if it needs no escape and there is room for 34 bytes,
-/// and returns whether it did. Otherwise nothing is added.
+/// Adds a string of at most 32 bytes in quotes if it needs no escape and there is room for 34
+/// bytes, and returns whether it did.
 // By `len` and `capacity`, `put_key` of memory knows that there is still room for a colon.
 #[inline(always)]
 pub(super) fn push_short(bytes: &mut Vec<u8>, string: &[u8]) -> bool
@@ -63,10 +63,8 @@ pub(super) fn put_short(room: &mut [u8], start: usize, string: &[u8]) -> bool
     true
 }
 
-/// Puts a string of at most 32 bytes at an offset if it needs no escape. Otherwise nothing is put,
-/// and the result is false. The clause `PutsPlain` says this, and that the byte after the string
-/// stays, which is the closing quote of the caller. Each arm puts the first and the last `N` bytes,
-/// which may overlap (`put_ends`).
+/// Puts a string of at most 32 bytes at an offset if it needs no escape, and returns whether it
+/// did. The byte after the string stays, which is the closing quote of the caller.
 #[inline(always)]
 fn put_if_plain(bytes: &mut [u8], offset: usize, string: &[u8]) -> bool
     requires few { length string.now ≤ BY_ENDS_MAX_LEN }

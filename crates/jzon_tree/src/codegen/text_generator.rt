@@ -1,7 +1,7 @@
 //! The generators of the crate: they write a text in a layout, into memory of their own or to a
 //! borrowed writer. A `put_..` of the destination adds all or nothing; if nothing, the bytes go to
-//! the destination's writer, by `send`. A hook `try_..` stores an error in the slot (`error_slot`);
-//! the hook of the name after `try_` calls it with a slot of its own, if there is one.
+//! the destination's writer, by `send`. `write_string` calls `try_write_string` with an error
+//! slot of its own, as other hooks do.
 
 ghost use Rattle.std.specs.Prelude.{◌≡◌, [], Ok, None, Some, IsSome, IsTrue, IsUtf8, IfErr, IfOk, MatchResult, OnErr, string_bytes};
 ghost use Rattle.std.specs.IoError.{error_kind};
@@ -202,7 +202,6 @@ impl<P: Destination, L: Layout> Generator for TextGenerator<P, L> {
     }
 
     fn try_write_key(&mut self, key: &str, slot: &mut ErrorSlot) -> SlotResult<()> {
-        // A layout with lines has a space after the colon.
         let wide = self.layout.spaces().is_some();
         if self.destination.put_key(key.as_bytes(), wide) {
             return Ok(());
@@ -212,7 +211,6 @@ impl<P: Destination, L: Layout> Generator for TextGenerator<P, L> {
     }
 
     fn try_write_number(&mut self, num: &Number, slot: &mut ErrorSlot) -> SlotResult<()> {
-        // For an exponent other than 0 `write_decimal` does what follows here.
         if num.as_parts().2 != 0 {
             return self.write_decimal(num, slot);
         }
@@ -224,7 +222,6 @@ impl<P: Destination, L: Layout> Generator for TextGenerator<P, L> {
 
     #[inline(always)]
     fn try_new_line(&mut self, slot: &mut ErrorSlot) -> SlotResult<()> {
-        // A layout without lines has no whitespace.
         let Some(spaces) = self.layout.spaces() else {
             return Ok(());
         };

@@ -1,5 +1,4 @@
-//! The texts of objects (docs/RULES.md, "Layouts"). Calls that print ensure `IsValue` too, because
-//! the laws on reading back need it.
+//! The texts of objects (docs/RULES.md, "Layouts").
 
 ghost use Rattle.std.specs.Prelude.{◌≡◌, ◌<◌, ◌≤◌, ◌^◌, IfOk, IsOkUnless, string_bytes};
 ghost use Rattle.jzon_tree.specs.Lawful.{IsValue};

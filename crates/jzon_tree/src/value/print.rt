@@ -189,7 +189,7 @@ fn write_outlet<W: Outlet, L: Layout + Drop>(
     let mut generator = TextGenerator::to_outlet(outlet, layout);
     let answer = write_json(&mut generator, json);
     let inner = generator.into_outlet();
-    // No effect at run time. From this use the proof learns what the outlet holds.
+    // As in `write_in`.
     let _ = &*inner;
     answer
 }

@@ -24,7 +24,7 @@ fn put_hashed(entries: &mut [(u64, usize)], keys: &[Key], from: usize)
 
 impl Run {
     /// Replaces the entries by those of as many keys from a position on, or of all that are left,
-    /// and returns the position after them. Takes no memory.
+    /// and returns the position after them.
     fn refill(&mut self, keys: &[Key], from: usize) -> usize
         requires { from ≤ length keys.now }
         ensures end { result ≡ min (from + length self.old) (length keys.now) }
