@@ -19,7 +19,7 @@ ghost use Rattle.jzon.specs.Private.Numerals.{LeadsTo, MissesDigit, HasTooMany, 
 
 use crate::bytes_at::{byte_at, has_byte};
 use crate::fault::{Result, Stop, fault_at};
-use jzon_base::digits::{DigitFault, read_scanned, scan};
+use jzon_base::digits::{DigitFault, first_too_many, read_scanned, scan};
 use jzon_base::number::Number;
 
 /// The number whose first digit is at `start`, after a minus if it is `negative`, and the offset
@@ -46,9 +46,12 @@ pub(crate) fn read_number(source: &str, start: usize, negative: bool) -> Result<
     );
     match number {
         // A digit too many comes before a missing one.
-        Err(fault) => Err(Stop::Limit(offset_of(fault, start, spelling.whole.len()))),
-        Ok(_) if spelling.is_missing => Err(fault_at(source, spelling.end)),
-        Ok(number) => Ok((number, spelling.end)),
+        None => {
+            let fault = first_too_many(spelling.whole, spelling.fraction);
+            Err(Stop::Limit(offset_of(fault, start, spelling.whole.len())))
+        }
+        Some(_) if spelling.is_missing => Err(fault_at(source, spelling.end)),
+        Some(number) => Ok((number, spelling.end)),
     }
 }
 

@@ -4,7 +4,7 @@
 //! Take the digits before the point and those after it as one list. Its longest prefix that spells
 //! a number below 2^64 is kept: it is the mantissa. The digits after this prefix are dropped.
 
-ghost use Rattle.std.specs.Prelude.{◌≡◌, ℕ, pos, ◌+◌, ◌%◌, ◌<◌, ◌≤◌, ◌^◌, ◌-ℤ◌, ◌+ℤ◌, ◌++◌, length, take, min, IfErr, OkIff};
+ghost use Rattle.std.specs.Prelude.{◌≡◌, ℕ, pos, ◌+◌, ◌%◌, ◌<◌, ◌≤◌, ◌^◌, ◌-ℤ◌, ◌+ℤ◌, ◌++◌, length, take, min, SomeIff};
 ghost use Rattle.std.specs.Char.{is_ascii_digit};
 ghost use Rattle.std.specs.List.{fold, prefix_len, All};
 ghost use Rattle.jzon_base.specs.Decimal.{signed};
@@ -41,7 +41,7 @@ pub enum DigitFault {
 
 /// The number of the digits before the point, those after it and those of the exponent, and the
 /// signs of both; a missing part is empty. `number` is what `scan` returns for the digits before
-/// and after the point, one after the other.
+/// and after the point, one after the other. `None` if they are too many.
 pub fn read_scanned(
     positive: bool,
     whole: &[u8],
@@ -49,32 +49,45 @@ pub fn read_scanned(
     number: u64,
     positive_exponent: bool,
     exponent: &[u8],
-) -> Result<Number, DigitFault>
+) -> Option<Number>
     requires whole { All IsDigit whole.now }
     requires fraction { All IsDigit fraction.now }
     requires number { number ≡ digits_number (whole.now ++ fraction.now) % 2 ^ 64 }
     requires exponent { All IsDigit exponent.now }
-    ensures number { OkIff result (AreFewEnough whole.now fraction.now)
+    ensures { SomeIff result (AreFewEnough whole.now fraction.now)
         (number_read positive whole.now fraction.now
         (signed positive_exponent (digits_number exponent.now))) }
-    ensures fault { IfErr result (IsFirstTooMany whole.now fraction.now) }
 {
     // Most numbers have so few digits that none is dropped. Then `number` is exact, although `scan`
     // computes it modulo 2^64.
     if whole.len() + fraction.len() <= ALWAYS_KEPT {
         let exponent = clamped_exponent(0, fraction.len(), positive_exponent, exponent);
-        return Ok(Number::from_parts_unchecked(positive, number, exponent));
+        return Some(Number::from_parts_unchecked(positive, number, exponent));
     }
     let (number, dropped, kept_fraction) = kept_prefix(whole, fraction);
-    // The first digit too many follows the kept ones and `MAX_DROPPED` dropped ones.
-    if dropped > MAX_DROPPED {
-        return Err(DigitFault::Whole(whole.len() - dropped + MAX_DROPPED));
-    }
-    if kept_fraction > MAX_KEPT_FRACTION {
-        return Err(DigitFault::Fraction(MAX_KEPT_FRACTION));
+    if dropped > MAX_DROPPED || kept_fraction > MAX_KEPT_FRACTION {
+        return None;
     }
     let exponent = clamped_exponent(dropped, kept_fraction, positive_exponent, exponent);
-    Ok(Number::from_parts_unchecked(positive, number, exponent))
+    Some(Number::from_parts_unchecked(positive, number, exponent))
+}
+
+/// The first digit that is too many: before the point it follows the kept digits and `MAX_DROPPED`
+/// dropped ones, and after the point `MAX_KEPT_FRACTION` kept ones.
+#[cold]
+#[inline(never)]
+pub fn first_too_many(whole: &[u8], fraction: &[u8]) -> DigitFault
+    requires whole { All IsDigit whole.now }
+    requires fraction { All IsDigit fraction.now }
+    requires limit { ¬ AreFewEnough whole.now fraction.now }
+    ensures { IsFirstTooMany whole.now fraction.now result }
+{
+    let (_, dropped, _) = kept_prefix(whole, fraction);
+    if dropped > MAX_DROPPED {
+        DigitFault::Whole(whole.len() - dropped + MAX_DROPPED)
+    } else {
+        DigitFault::Fraction(MAX_KEPT_FRACTION)
+    }
 }
 
 /// How many digits `bytes` begin with, and the number that they spell when appended to those of

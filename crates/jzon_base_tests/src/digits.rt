@@ -20,8 +20,8 @@ fn parts_read(whole: &[u8], fraction: &[u8]) -> Option<(bool, u64, i16)> {
     }
     let number = number_modulo(whole, fraction);
     match read_scanned(true, whole, fraction, number, true, b"") {
-        Ok(read) => Some(read.as_parts()),
-        Err(_) => None,
+        Some(read) => Some(read.as_parts()),
+        None => None,
     }
 }
 

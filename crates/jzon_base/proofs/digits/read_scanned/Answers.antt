@@ -5,8 +5,8 @@ use Rattle.jzon_base.specs.Digits.{IsDigit, kept_len}
 use Rattle.jzon_base.proofs.Numbers.DigitPrefixes.{few_fit, few_kept}
 use Rattle.jzon_base.proofs.digits.read_scanned.Goals as goal
 
-pub returns-then-whole-fraction-le-ALWAYS_KEPT-clause-number : goal.returns-then-whole-fraction-le-ALWAYS_KEPT-clause-number
-returns-then-whole-fraction-le-ALWAYS_KEPT-clause-number c =
+pub returns-then-whole-fraction-le-ALWAYS_KEPT : goal.returns-then-whole-fraction-le-ALWAYS_KEPT
+returns-then-whole-fraction-le-ALWAYS_KEPT c =
     let whole = c.args.whole.now in
     let fraction = c.args.fraction.now in
     let ds = whole ++ fraction in
