@@ -6,7 +6,7 @@
 use jzon::JsonValue;
 use std::alloc::Global;
 use std::io;
-use std::io::{BufWriter, Write};
+use std::io::Write;
 use std::process::ExitCode;
 
 fn main(rt: HostRuntime) -> io::Result<ExitCode> {
@@ -15,7 +15,7 @@ fn main(rt: HostRuntime) -> io::Result<ExitCode> {
     let config = match with_port(alloc, text.as_str(), 8080) {
         Ok(Some(config)) => config,
         Ok(None) => {
-            eprintln!(rt; "config: there is no object \"server\"")?;
+            eprintln!(rt; "config: there is no \"server\"")?;
             return Ok(ExitCode::FAILURE);
         }
         Err(error) => {
@@ -23,20 +23,19 @@ fn main(rt: HostRuntime) -> io::Result<ExitCode> {
             return Ok(ExitCode::FAILURE);
         }
     };
-    let mut out = BufWriter::new(alloc, rt.stdout())?;
+    let mut out = rt.stdout();
     config.write_pretty(&mut out, 2)?;
     writeln!(out)?;
-    out.flush()?;
     Ok(ExitCode::SUCCESS)
 }
 
 /// The configuration that the text has, with the port of its server changed. `None` if the text
-/// has no object `server`.
+/// has no server.
 fn with_port(alloc: Global, text: &str, port: u16) -> jzon::Result<Option<JsonValue>> {
     let mut config = jzon::parse(alloc, text)?;
-    if !config.at("server").is_object() {
+    let Some(server) = config.get_mut("server") else {
         return Ok(None);
-    }
-    *config.at_mut(alloc, "server")?.at_mut(alloc, "port")? = JsonValue::from(port);
+    };
+    server.insert(alloc, "port", port)?;
     Ok(Some(config))
 }
