@@ -1,11 +1,15 @@
 -- What several writes add, one after the other.
 use Rattle.std.proofs.Common.{ℕ, ◌+◌, List, ◌++◌, length, arith, Option, Result, Ok, Err, OnOk, OnErr}
 use Rattle.std.proofs.lemmas.List.{length-append}
-use Rattle.std.proofs.Math.Seq.{take-append-add}
+use Rattle.std.proofs.Math.Seq.{take-append-add, take-length}
 use Rattle.std.proofs.KnownBytes.{Appends-trans}
 use Rattle.std.specs.Io.KnownBytes.{Appends}
 use Rattle.jzon.specs.Written.{AppendsBeginning}
 use Rattle.jzonfmt.specs.Run.{WritesWhole}
+
+-- the whole is a prefix of itself
+pub whole_beginning : (a b : Option (List ℕ)) (bs : List ℕ) → Appends a b bs → AppendsBeginning a b bs
+whole_beginning a b bs p = (length bs, omega arith, rw take-length p)
 
 -- a write, by its result
 pub written : {E : Type 0} (r : Result (Unit {0}) E) (a b : Option (List ℕ)) (bs : List ℕ) → OnOk r (Appends a b bs)
