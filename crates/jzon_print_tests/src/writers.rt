@@ -237,8 +237,6 @@ fn ending(alloc: Global, entries: usize, len: usize, piece: &(&str, &str)) -> Re
         ("\"k\":\"", 1),
         ("p", rest),
         ("\",\"v\":", 1),
-        (piece.0, 1),
-        ("}", 1),
     ];
     let lines = [
         ("{", 1),
@@ -246,16 +244,21 @@ fn ending(alloc: Global, entries: usize, len: usize, piece: &(&str, &str)) -> Re
         ("\n \"k\": \"", 1),
         ("p", rest),
         ("\",\n \"v\": ", 1),
-        (piece.1, 1),
-        ("\n}", 1),
     ];
-    let compact = joined(alloc, &parts)?;
+    let compact = ended(joined(alloc, &parts)?, piece.0, "}")?;
     Ok(Sample {
         value: parse(alloc, compact.as_str())?,
         compact,
-        pretty: joined(alloc, &lines)?,
+        pretty: ended(joined(alloc, &lines)?, piece.1, "\n}")?,
         spaces: 1,
     })
+}
+
+/// The text with its last value, and the end of its object.
+fn ended(mut text: String, value: &str, end: &str) -> Result<String> {
+    text.push_str(value)?;
+    text.push_str(end)?;
+    Ok(text)
 }
 
 /// The last bytes of a full buffer, the first of the next, and the last of the text.
