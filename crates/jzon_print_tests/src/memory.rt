@@ -133,7 +133,7 @@ const ON_LINES: &str =
 /// allocations.
 type Row = (Writing, &'static str, &'static str, &'static str, usize);
 
-/// The calls that give their text room for 1,024 bytes at once, and the others.
+/// The calls that give their text room for 1,024 bytes at once, or send it at once, and the others.
 const WRITTEN: &[Row] = &[
     (Writing::Dump, "dump", DOCUMENT, DUMP, 1),
     (Writing::Pretty, "pretty", DOCUMENT, PRETTY, 1),
@@ -143,9 +143,9 @@ const WRITTEN: &[Row] = &[
     (Writing::PrettyLayOut, "lay_out 2", LISTED, ON_LINES, 1),
     (Writing::DumpGenerator, "generator", LISTED, LISTED, 4),
     (Writing::PrettyGenerator, "generator 2", LISTED, ON_LINES, 5),
-    (Writing::Write, "write", LISTED, LISTED, 4),
-    (Writing::WritePretty, "write_pretty", LISTED, ON_LINES, 5),
-    (Writing::WriteLayout, "write_layout", LISTED, ON_LINES, 5),
+    (Writing::Write, "write", LISTED, LISTED, 1),
+    (Writing::WritePretty, "write_pretty", LISTED, ON_LINES, 1),
+    (Writing::WriteLayout, "write_layout", LISTED, ON_LINES, 1),
 ];
 
 /// The calls that give their text room at once, which a string of 2,000 bytes exceeds.
@@ -340,13 +340,13 @@ const LONG_TEXT: &str = "abcdefghijklmnopqrstuvwxyz01234";
 const LONG_STRING: &str = "\"abcdefghijklmnopqrstuvwxyz01234\"";
 
 const PRINTED: &[Printed] = &[
-    (Print::Into(Writing::Write), "write", DOCUMENT, DUMP, 3),
+    (Print::Into(Writing::Write), "write", DOCUMENT, DUMP, 1),
     (
         Print::Into(Writing::WritePretty),
         "write_pretty",
         DOCUMENT,
         PRETTY,
-        4,
+        1,
     ),
     (
         Print::Into(Writing::WriterGenerator),
