@@ -2,7 +2,7 @@
 
 use crate::common::{Tested, expect, expect_dump, expect_eq};
 use jzon::Error;
-use jzon_examples::cookbook::depth::{fill_missing, longest, trim_all};
+use jzon_examples::cookbook::depth::{longest, trim_all};
 
 #[test]
 fn trims_at_any_depth(rt: HostRuntime) -> Tested {
@@ -30,21 +30,4 @@ fn reaches_the_deepest_value_of_a_text(rt: HostRuntime) -> Tested {
     let result = trim_all(alloc, &mut deeper);
     expect(&rt, "deeper", result == Err(Error::ExceededDepthLimit));
     Ok(())
-}
-
-#[test]
-fn fills_in_defaults(rt: HostRuntime) -> Tested {
-    let alloc = rt.alloc();
-    let defaults = r#"{"host": "a", "limits": {"time": 30, "size": {"max": 9}}}"#;
-    let defaults = jzon::parse(alloc, defaults)?;
-    let mut config = jzon::parse(alloc, r#"{"limits": {"time": 5}, "log": null}"#)?;
-    fill_missing(alloc, &mut config, &defaults, 513)?;
-    expect_dump(
-        &rt,
-        &config,
-        r#"{"limits":{"time":5,"size":{"max":9}},"log":null,"host":"a"}"#,
-    )?;
-    let mut list = jzon::parse(alloc, "[1]")?;
-    fill_missing(alloc, &mut list, &defaults, 513)?;
-    expect_dump(&rt, &list, "[1]")
 }

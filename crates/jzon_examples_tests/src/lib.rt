@@ -19,15 +19,9 @@ mod faults;
 #[cfg(test)]
 mod from_rust;
 #[cfg(test)]
-mod layers;
-#[cfg(test)]
 mod line_filter;
 #[cfg(test)]
 mod looking;
-#[cfg(test)]
-mod merge_patch;
-#[cfg(test)]
-mod patch;
 #[cfg(test)]
 mod pointer;
 #[cfg(test)]

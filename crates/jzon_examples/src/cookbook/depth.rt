@@ -38,25 +38,3 @@ pub fn longest(value: &JsonValue, depth: u16) -> usize {
     }
     most
 }
-
-/// Adds to each object the entries that it lacks and that the defaults have at the same path.
-pub fn fill_missing(
-    alloc: Global,
-    config: &mut JsonValue,
-    defaults: &JsonValue,
-    depth: u16,
-) -> Result<()> {
-    if depth == 0 {
-        return Err(Error::ExceededDepthLimit);
-    }
-    if !config.is_object() {
-        return Ok(());
-    }
-    for (key, default) in defaults.entries() {
-        match config.get_mut(key) {
-            Some(found) => fill_missing(alloc, found, default, depth - 1)?,
-            None => config.insert(alloc, key, default.clone(alloc)?)?,
-        }
-    }
-    Ok(())
-}

@@ -1,0 +1,5 @@
+//! What callers of `jzon` often need beside it (docs/TOOLS.md): merge patches and layers.
+//! Free functions, by module. Of the library's definitions they name only those of `jzon`.
+#![tactic(auto)]
+
+pub mod merge;

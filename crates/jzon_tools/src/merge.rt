@@ -1,0 +1,112 @@
+//! Merge patches (RFC 7396) and layers of a configuration: a value that says what changes in
+//! another one.
+//!
+//! Both are `merged` of specs/Merge.antt, which differ at a null. The change is made in a copy, which
+//! then replaces the value: so an error leaves the value as it was. `merge`, `merge_members` and
+//! `merge_member` call one another; proofs/merge/+merge says what gets smaller: the size of the patch.
+
+ghost use Rattle.std.specs.Prelude.{◌≡◌, OnOk, OnErr, IsOkUnless, true, false};
+ghost use Rattle.jzon.specs.Entries.{entries_of};
+ghost use Rattle.jzon.specs.View.{view, viewed, view_pairs};
+ghost use Rattle.jzon_tools.specs.Merge.{merged, merged_pairs, merged_pair};
+
+use jzon::object::Object;
+use jzon::{Error, JsonValue, Result};
+use std::alloc::Global;
+
+/// Applies a merge patch (RFC 7396): an entry of the patch that is null removes the target's, any
+/// other is put into it, and objects are merged at every depth. A patch that is no object replaces
+/// the target. Takes the time and memory of a clone of both.
+///
+/// ```rust
+/// merge_patch(alloc, &mut target, &patch)?;
+/// ```
+pub fn merge_patch(alloc: Global, target: &mut JsonValue, patch: &JsonValue) -> Result<()>
+    ensures ok { OnOk result (view target.new ≡ merged true (view target.old) (view patch.now)) }
+    ensures err { OnErr result (target.new ≡ target.old) }
+    ensures memory { IsOkUnless result Error.OutOfMemory }
+{
+    let mut copy = target.clone(alloc)?;
+    merge(alloc, &mut copy, patch, true)?;
+    *target = copy;
+    Ok(())
+}
+
+/// Puts the entries of a later layer over those of a base, at every depth. Unlike in a merge patch,
+/// null is a value. Takes the time and memory of a clone of both.
+pub fn layer(alloc: Global, base: &mut JsonValue, later: &JsonValue) -> Result<()>
+    ensures ok { OnOk result (view base.new ≡ merged false (view base.old) (view later.now)) }
+    ensures err { OnErr result (base.new ≡ base.old) }
+    ensures memory { IsOkUnless result Error.OutOfMemory }
+{
+    let mut copy = base.clone(alloc)?;
+    merge(alloc, &mut copy, later, false)?;
+    *base = copy;
+    Ok(())
+}
+
+/// Merges a patch into the target itself, which after an error may be merged in part.
+#[cycle(merge)]
+#[tactic(auto, using(crate::proofs::Merges::merges))]
+fn merge(alloc: Global, target: &mut JsonValue, patch: &JsonValue, drops_nulls: bool) -> Result<()>
+    ensures ok { OnOk result
+        (view target.new ≡ merged drops_nulls (view target.old) (view patch.now)) }
+    ensures memory { IsOkUnless result Error.OutOfMemory }
+{
+    let JsonValue::Object(members) = patch else {
+        *target = patch.clone(alloc)?;
+        return Ok(());
+    };
+    match target {
+        JsonValue::Object(object) => merge_members(alloc, object, members, drops_nulls),
+        _ => {
+            let mut object = Object::new(alloc);
+            merge_members(alloc, &mut object, members, drops_nulls)?;
+            *target = JsonValue::Object(object);
+            Ok(())
+        }
+    }
+}
+
+#[cycle(merge)]
+#[tactic(auto, using(crate::proofs::Merges::merges))]
+fn merge_members(
+    alloc: Global,
+    object: &mut Object,
+    members: &Object,
+    drops_nulls: bool,
+) -> Result<()>
+    ensures ok { OnOk result (viewed (entries_of object.new) ≡ merged_pairs drops_nulls
+        (viewed (entries_of object.old)) (view_pairs (entries_of members.now))) }
+    ensures memory { IsOkUnless result Error.OutOfMemory }
+{
+    for (key, value) in members.iter() {
+        merge_member(alloc, object, key, value, drops_nulls)?;
+    }
+    Ok(())
+}
+
+#[cycle(merge)]
+#[tactic(auto, using(crate::proofs::Merges::merges))]
+fn merge_member(
+    alloc: Global,
+    object: &mut Object,
+    key: &str,
+    value: &JsonValue,
+    drops_nulls: bool,
+) -> Result<()>
+    ensures ok { OnOk result (viewed (entries_of object.new)
+        ≡ merged_pair drops_nulls (viewed (entries_of object.old)) key.now (view value.now)) }
+    ensures memory { IsOkUnless result Error.OutOfMemory }
+{
+    if drops_nulls && value.is_null() {
+        object.remove(key);
+        return Ok(());
+    }
+    if let Some(member) = object.get_mut(key) {
+        return merge(alloc, member, value, drops_nulls);
+    }
+    let mut new = JsonValue::Null;
+    merge(alloc, &mut new, value, drops_nulls)?;
+    object.insert(alloc, key, new)
+}

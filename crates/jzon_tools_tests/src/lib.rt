@@ -1,0 +1,8 @@
+//! Tests of `jzon_tools`, in a file of the name of each module. They are a crate of their own because
+//! a crate that contains tests is proved twice.
+#![tactic(auto)]
+
+#[cfg(test)]
+mod common;
+#[cfg(test)]
+mod merge;
