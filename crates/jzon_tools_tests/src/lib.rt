@@ -5,4 +5,8 @@
 #[cfg(test)]
 mod common;
 #[cfg(test)]
+mod examples;
+#[cfg(test)]
 mod merge;
+#[cfg(test)]
+mod redact;

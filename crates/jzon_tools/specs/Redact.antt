@@ -1,0 +1,41 @@
+-- A value in which each member with one of some names is the string `***`, at any depth.
+use Rattle.std.specs.Prelude.{ℕ, List, Bool, false, Option, None, Some, codes, if◌then◌else◌}
+use Rattle.std.specs.List.{list_any}
+use Rattle.std.specs.Str.{bytes_eq}
+use Rattle.jzon.specs.Value.{Value, null, boolean, text, number, array, object, Values, no_values, value, ValuePairs}
+use Rattle.jzon.specs.Value.{no_pairs, pair, short}
+
+-- what replaces a member's value
+abbrev pub hidden : Value
+hidden = text short (codes "***")
+
+-- whether a name is one of them
+abbrev pub is_among : List (List ℕ) → List ℕ → Bool
+is_among names k = list_any (λ n. bytes_eq n k) names
+
+-- whether the name of a member that may be there is one of them
+abbrev pub names_among : {V : Type 0} → List (List ℕ) → Option (List ℕ × V) → Bool
+names_among names None = false
+names_among names (Some p) = is_among names p.0
+
+abbrev mutual
+  pub redacted : List (List ℕ) → Value → Value
+  redacted names null = null
+  redacted names (boolean b) = boolean b
+  redacted names (text k s) = text k s
+  redacted names (number n) = number n
+  redacted names (array vs) = array (redacted_values names vs)
+  redacted names (object ps) = object (redacted_pairs names ps)
+
+  pub redacted_values : List (List ℕ) → Values → Values
+  redacted_values names no_values = no_values
+  redacted_values names (value v vs) = value (redacted names v) (redacted_values names vs)
+
+  pub redacted_pairs : List (List ℕ) → ValuePairs → ValuePairs
+  redacted_pairs names no_pairs = no_pairs
+  redacted_pairs names (pair k v ps) =
+      pair k (if is_among names k then hidden else redacted names v) (redacted_pairs names ps)
+
+-- one member
+abbrev pub redacted_member : List (List ℕ) → List ℕ × Value → List ℕ × Value
+redacted_member names p = (p.0, if is_among names p.0 then hidden else redacted names p.1)
