@@ -1,7 +1,20 @@
 //! The code that docs/TOOLS.md quotes.
 
 use crate::common::Tested;
+use jzon_tools::canonical::{canonical_text, sort_keys};
 use jzon_tools::redact::redact;
+
+#[test]
+fn canonical_order(rt: HostRuntime) -> Tested {
+    let alloc = rt.alloc();
+    let mut order = jzon::parse(alloc, r#"{"to": "b", "sum": 1.50, "at": [-0, 1e2]}"#)?;
+    let text = canonical_text(alloc, &order)?;
+    assert_eq!(rt; text.as_str(), r#"{"at":[0,100],"sum":1.5,"to":"b"}"#);
+    sort_keys(alloc, &mut order)?;
+    let dump = order.dump(alloc)?;
+    assert_eq!(rt; dump.as_str(), r#"{"at":[-0,100],"sum":1.50,"to":"b"}"#);
+    Ok(())
+}
 
 #[test]
 fn redacted_user(rt: HostRuntime) -> Tested {

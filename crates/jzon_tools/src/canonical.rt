@@ -1,0 +1,228 @@
+//! Canonical texts, which aren't those of RFC 8785, and copies with sorted keys.
+//!
+//! The canonical text is the compact text of a copy, in which keys are sorted by their bytes at
+//! every depth, each zero is `0`, and no other mantissa ends in a zero. `law` says that equal values
+//! have one text, and other values another. RFC 8785 sorts keys by UTF-16 units, and its numbers
+//! are those of doubles: where it has `1e+21` and `1e-7`, a canonical text has `1e21` and
+//! `0.0000001`.
+
+ghost use Rattle.std.specs.Prelude.{◌≡◌, ◌↔◌, IfErr, IfOk, IsOkUnless, OnErr, OnOk, Some, codes, map, string_bytes};
+ghost use Rattle.std.specs.List.{list_any};
+ghost use Rattle.std.specs.List.Sorted.{IsPermutation, IsStrictlySortedBy};
+ghost use Rattle.std.specs.Cmp.Lexicographic.{slice_cmp};
+ghost use Rattle.std.specs.Ordering.{nat_cmp};
+ghost use Rattle.std.specs.Slice.Iter.{iter_rest};
+ghost use Rattle.jzon.specs.Entries.{entries_of};
+ghost use Rattle.jzon.specs.Lawful.{HasNoNan};
+ghost use Rattle.jzon.specs.PairList.{keys_of};
+ghost use Rattle.jzon.specs.View.{view, view_pairs};
+ghost use Rattle.jzon_tools.specs.Canonical as canonical;
+ghost use Rattle.jzon_tools.specs.Canonical.{arranged, has_nan, leaf_of, normal_number, pointed};
+ghost use Rattle.jzon_tools.specs.Canonical.{sorted_keys, CanonicalLaw};
+
+use jzon::number::Number;
+use jzon::object::Object;
+use jzon::{Error, IntoJson, JsonValue, Result};
+use std::alloc::Global;
+use std::{fmt, slice};
+
+/// Why a value gets no canonical text.
+#[derive(Debug, PartialEq, Eq, Drop)]
+pub enum CanonicalError {
+    /// A NaN is in the value. No text means it.
+    NotANumber,
+    /// An allocation failed.
+    OutOfMemory,
+}
+
+impl fmt::Display for CanonicalError {
+    fn fmt<W: fmt::Write>(&self, f: &mut fmt::Formatter<W>) -> fmt::Result {
+        f.write_str(match self {
+            CanonicalError::NotANumber => "Not a number",
+            CanonicalError::OutOfMemory => "Out of memory",
+        })
+    }
+}
+
+impl std::error::Error for CanonicalError {}
+
+/// The canonical text of a value without NaN.
+///
+/// ```rust
+/// let mut order = jzon::parse(alloc, r#"{"to": "b", "sum": 1.50, "at": [-0, 1e2]}"#)?;
+/// let text = canonical_text(alloc, &order)?;   // {"at":[0,100],"sum":1.5,"to":"b"}
+/// ```
+#[tactic(auto, using(crate::proofs::NanLaws::nan_laws))]
+pub fn canonical_text(
+    alloc: Global,
+    value: &JsonValue,
+) -> std::result::Result<String, CanonicalError>
+    ensures text { IfOk result (λ text. string_bytes text ≡ canonical.canonical (view value.now)) }
+    ensures number { OnOk result (HasNoNan (view value.now)) }
+    ensures nan { IfErr result (λ error. (error ≡ CanonicalError.NotANumber)
+        ↔ (HasNoNan (view value.now) → ⊥)) }
+{
+    if has_nan(value) {
+        return Err(CanonicalError::NotANumber);
+    }
+    match text_of(alloc, value) {
+        Ok(text) => Ok(text),
+        Err(_) => Err(CanonicalError::OutOfMemory),
+    }
+}
+
+/// The text of the normal copy.
+fn text_of(alloc: Global, value: &JsonValue) -> Result<String>
+    ensures { IfOk result (λ text. string_bytes text ≡ canonical.canonical (view value.now)) }
+{
+    arranged(alloc, value, true)?.dump(alloc)
+}
+
+/// Two values without NaN are equal if and only if their canonical texts are the same. It does
+/// nothing: the law is its contract, as of `jzon::laws`.
+pub fn law()
+    ensures { CanonicalLaw }
+{}
+
+/// A copy of the value with the keys of each object sorted by their bytes, at every depth. Numbers
+/// keep their parts, and strings how they are stored.
+pub fn sorted(alloc: Global, value: &JsonValue) -> Result<JsonValue>
+    ensures sorted { IfOk result (λ copy. view copy ≡ sorted_keys (view value.now)) }
+    ensures memory { IsOkUnless result Error.OutOfMemory }
+{
+    arranged(alloc, value, false)
+}
+
+/// Sorts the keys of each object in the value by their bytes, at every depth. The value is copied
+/// meanwhile, so that a failed allocation changes nothing.
+pub fn sort_keys(alloc: Global, value: &mut JsonValue) -> Result<()>
+    ensures ok { OnOk result (view value.new ≡ sorted_keys (view value.old)) }
+    ensures err { OnErr result (value.new ≡ value.old) }
+    ensures memory { IsOkUnless result Error.OutOfMemory }
+{
+    *value = sorted(alloc, value)?;
+    Ok(())
+}
+
+/// Whether a NaN is in the value.
+#[cycle(nan)]
+#[tactic(auto, using(crate::proofs::Views::views))]
+fn has_nan(value: &JsonValue) -> bool
+    ensures { result ≡ has_nan (view value.now) }
+{
+    match value {
+        JsonValue::Number(number) => number.is_nan(),
+        JsonValue::Array(items) => any_has_nan(items.iter()),
+        JsonValue::Object(object) => any_has_nan(object.values()),
+        _ => false,
+    }
+}
+
+#[cycle(nan)]
+fn any_has_nan(values: slice::Iter<'_, JsonValue>) -> bool
+    ensures { result ≡ list_any has_nan (map view (iter_rest values.entry)) }
+{
+    for value in values {
+        if has_nan(value) {
+            return true;
+        }
+    }
+    false
+}
+
+/// A copy with sorted keys; if `normal`, with normal numbers too.
+#[cycle(arranged)]
+#[tactic(auto, using(crate::proofs::Views::views))]
+fn arranged(alloc: Global, value: &JsonValue, normal: bool) -> Result<JsonValue>
+    ensures copy { IfOk result (λ copy. view copy ≡ arranged (leaf_of normal) (view value.now)) }
+    ensures memory { IsOkUnless result Error.OutOfMemory }
+{
+    match value {
+        JsonValue::Array(items) => Ok(JsonValue::Array(arranged_items(alloc, items, normal)?)),
+        JsonValue::Object(object) => {
+            Ok(JsonValue::Object(arranged_object(alloc, object, normal)?))
+        }
+        JsonValue::Number(number) if normal => Ok(JsonValue::Number(normal_number(*number))),
+        JsonValue::Short(text) if normal => text.as_str().into_json(alloc),
+        JsonValue::String(text) if normal => text.as_str().into_json(alloc),
+        _ => value.clone(alloc),
+    }
+}
+
+#[cycle(arranged)]
+fn arranged_items(alloc: Global, items: &[JsonValue], normal: bool) -> Result<Vec<JsonValue>>
+    ensures copy { IfOk result (λ copies. map view copies.items
+        ≡ map (arranged (leaf_of normal)) (map view items.now)) }
+    ensures memory { IsOkUnless result Error.OutOfMemory }
+{
+    let mut copies = Vec::with_capacity(alloc, items.len())?;
+    for item in items {
+        copies.push(arranged(alloc, item, normal)?)?;
+    }
+    Ok(copies)
+}
+
+#[cycle(arranged)]
+fn arranged_object(alloc: Global, object: &Object, normal: bool) -> Result<Object>
+    ensures copy { IfOk result (λ copy. view_pairs (entries_of copy)
+        ≡ canonical.arranged_pairs (leaf_of normal) (view_pairs (entries_of object.now))) }
+    ensures memory { IsOkUnless result Error.OutOfMemory }
+{
+    let entries = sorted_entries(alloc, object)?;
+    let mut copy = Object::with_capacity(alloc, entries.len())?;
+    for (key, value) in &entries {
+        copy.insert(alloc, key, arranged(alloc, value, normal)?)?;
+    }
+    Ok(copy)
+}
+
+/// The entries of the object, sorted by their keys.
+fn sorted_entries<'a>(alloc: Global, object: &'a Object) -> Result<Vec<(&'a str, &'a JsonValue)>>
+    ensures same { IfOk result (λ entries. IsPermutation (entries_of object.now)
+        (map pointed entries.items)) }
+    ensures sorted { IfOk result (λ entries. IsStrictlySortedBy (slice_cmp nat_cmp)
+        (keys_of (map pointed entries.items))) }
+    ensures memory { IsOkUnless result Error.OutOfMemory }
+{
+    let mut entries = Vec::with_capacity(alloc, object.len())?;
+    for (key, value) in object {
+        entries.push((key, value))?;
+    }
+    entries.sort_by_key(
+        |entry|
+            ensures { result ≡ entry.now.0 }
+        { entry.0 },
+    )?;
+    Ok(entries)
+}
+
+/// The number with `+0` for each zero; any other without the last zeros of its mantissa.
+fn normal_number(number: Number) -> Number
+    ensures { result ≡ normal_number number }
+{
+    if number.is_nan() {
+        return number;
+    }
+    let (positive, mantissa, exponent) = number.as_parts();
+    if mantissa == 0 {
+        return Number::from_parts_unchecked(true, 0, 0);
+    }
+    let (mantissa, exponent) = stripped(mantissa, exponent);
+    Number::from_parts_unchecked(positive, mantissa, exponent)
+}
+
+/// The mantissa without its last zeros, as far as the exponent, which counts them, has room.
+fn stripped(mantissa: u64, exponent: i16) -> (u64, i16)
+    ensures { result ≡ canonical.stripped 20 mantissa exponent }
+{
+    let mut digits = mantissa;
+    let mut power = exponent;
+    for _zero in 0u8..20 {
+        if digits % 10 != 0 || power == i16::MAX {
+            break;
+        }
+        digits /= 10;
+        power += 1;
+    }
+    (digits, power)
+}
