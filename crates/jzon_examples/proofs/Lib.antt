@@ -1,3 +1,2 @@
 pub mod FilterSteps
 pub mod PointerSteps
-pub mod RedactSteps

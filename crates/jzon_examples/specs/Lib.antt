@@ -1,5 +1,4 @@
 pub mod Config
 pub mod Filter
 pub mod Pointer
-pub mod Redact
 pub mod Server

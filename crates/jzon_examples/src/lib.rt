@@ -2,15 +2,13 @@
 //! name only those of `jzon`.
 #![tactic(auto)]
 
-pub mod canonical;
 pub mod chains;
 pub mod cookbook;
 pub mod faults;
 pub mod from_rust;
 pub mod line_filter;
 pub mod pointer;
-pub mod redact;
 pub mod round_trip;
 pub mod server_record;
-pub mod sorted_generator;
+pub mod sorted_layout;
 pub mod writing;

@@ -5,8 +5,6 @@
 #[cfg(test)]
 mod building;
 #[cfg(test)]
-mod canonical;
-#[cfg(test)]
 mod chains;
 #[cfg(test)]
 mod changing;
@@ -31,15 +29,13 @@ mod proved;
 #[cfg(test)]
 mod reading;
 #[cfg(test)]
-mod redact;
-#[cfg(test)]
 mod refused;
 #[cfg(test)]
 mod round_trip;
 #[cfg(test)]
 mod server_record;
 #[cfg(test)]
-mod sorted_generator;
+mod sorted_layout;
 #[cfg(test)]
 mod tabs;
 #[cfg(test)]

@@ -27,8 +27,8 @@ const NEWLINE_AND_SPACES: [u8; 64] =
 /// The layout of a text: how many spaces begin its lines, if it has lines, and the order of an
 /// object's entries. `JsonValue::lay_out` and `write_layout` take one, and `TextGenerator`.
 ///
-/// Write one for another order. It has a style and two methods; this one, the example `canonical`
-/// of `jzon_examples`, sorts by key:
+/// Write one for another order. It has a style and two methods; this one, the example
+/// `sorted_layout` of `jzon_examples`, sorts by key:
 ///
 /// ```rust
 /// fn spaces(&self) -> Option<u16> {

@@ -1,19 +1,12 @@
-//! Canonical printer: a layout of one's own, which prints the entries of each object in the order
-//! of their keys.
+//! Layout of one's own, which prints the entries of each object in the order of their keys.
 //!
-//! `sorted_style` allows that order alone, so the contract says that what is printed is sorted; and
-//! each writing is read as an equal value, in whatever style.
+//! `sorted_style` allows that order alone, so the contract says that what is printed is sorted.
 
-ghost use Rattle.std.specs.Prelude.{◌≡◌, ◌≤◌, IfOk, IsTrue, map, slice_get, Some, string_bytes};
+ghost use Rattle.std.specs.Prelude.{◌≡◌, IfOk, map, slice_get, Some, string_bytes};
 ghost use Rattle.jzon.specs.Entries.{entries_of};
 ghost use Rattle.jzon.specs.Generator.{IsAnswer};
-ghost use Rattle.jzon.specs.Laws.{IsReadAs};
-ghost use Rattle.jzon.specs.Lawful.{HasNoNan};
 ghost use Rattle.jzon.specs.PairList.{keys_of};
-ghost use Rattle.jzon.specs.Reading.{usual};
-ghost use Rattle.jzon.specs.Same.{same};
 ghost use Rattle.jzon.specs.SortedStyle.{sorted_style};
-ghost use Rattle.jzon.specs.Value.{nest};
 ghost use Rattle.jzon.specs.View.{view};
 ghost use Rattle.jzon.specs.Writing.{Writes};
 
@@ -22,15 +15,9 @@ use jzon::object::Object;
 use jzon::{JsonValue, Result};
 use std::alloc::{AllocError, Global};
 
-/// The canonical text of a value that was built: no whitespace, and the entries of each object in
-/// the order of their keys.
-pub fn canonical(alloc: Global, value: &JsonValue) -> Result<String>
-    requires nan { HasNoNan (view value.now) }
-    requires depth { nest (view value.now) ≤ 512 }
-    ensures sorted { IfOk result (λ text. Writes sorted_style 0 (view value.now)
-        (string_bytes text)) }
-    ensures read { IfOk result (λ text. IsReadAs usual (string_bytes text)
-        (λ again. IsTrue (same again (view value.now)))) }
+/// The text of a value in this layout.
+pub fn sorted_text(alloc: Global, value: &JsonValue) -> Result<String>
+    ensures { IfOk result (λ text. Writes sorted_style 0 (view value.now) (string_bytes text)) }
 {
     value.lay_out(alloc, Sorted { alloc })
 }
@@ -59,10 +46,7 @@ impl Layout for Sorted {
 }
 
 /// The positions of the object's entries, in the order of their keys.
-pub fn sorted_positions(
-    alloc: Global,
-    object: &Object,
-) -> std::result::Result<Vec<usize>, AllocError>
+fn sorted_positions(alloc: Global, object: &Object) -> std::result::Result<Vec<usize>, AllocError>
     ensures { IfOk result (λ positions. IsAnswer sorted_style (keys_of (entries_of object.now))
         (Some positions)) }
 {

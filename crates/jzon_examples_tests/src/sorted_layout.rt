@@ -1,11 +1,11 @@
-//! Tests of `canonical`.
+//! Tests of `sorted_layout`.
 
 use crate::common::{Tested, Tester, expect, expect_dump, expect_eq};
 use jzon::codegen::{Generator, TextGenerator, write_json};
-use jzon_examples::canonical::{Sorted, canonical};
+use jzon_examples::sorted_layout::{Sorted, sorted_text};
 use jzon_test_support::{RUNS_MAX, Refusals, keys_by_hash, object_text};
 
-/// A text, and the canonical text of its value.
+/// A text, and the text of its value with sorted keys.
 #[rattlefmt::skip]
 const ROWS: &[(&str, &str)] = &[
     ("{\"c\":null,\"b\":null,\"a\":null}", SORTED),
@@ -17,10 +17,10 @@ const ROWS: &[(&str, &str)] = &[
 
 const SORTED: &str = "{\"a\":null,\"b\":null,\"c\":null}";
 
-/// The canonical text is sorted, and the dump is the source.
+/// The text is sorted, and the dump is the source.
 fn expect_sorted(rt: &impl Tester, source: &str, sorted: &str) -> Tested {
     let value = jzon::parse(rt.alloc(), source)?;
-    let text = canonical(rt.alloc(), &value)?;
+    let text = sorted_text(rt.alloc(), &value)?;
     expect_eq(rt, source, text.as_str(), sorted);
     expect_dump(rt, &value, source)
 }
@@ -42,7 +42,7 @@ fn sorts_many(rt: HostRuntime) -> Tested {
     let value = jzon::parse(alloc, text.as_str())?;
     keys.sort()?;
     let sorted = object_text(alloc, keys.as_slice())?;
-    expect(&rt, "canonical", canonical(alloc, &value)? == sorted);
+    expect(&rt, "text", sorted_text(alloc, &value)? == sorted);
     let mut bytes: Vec<u8> = Vec::new(alloc);
     value.write_layout(&mut bytes, Sorted { alloc })?;
     expect(&rt, "bytes", bytes.as_slice() == sorted.as_bytes());
