@@ -2,7 +2,7 @@
 use Rattle.std.proofs.Common.{◌≡◌, ◌==◌, pos, ℕ, List, length, Bool, true, false, cond, Option, None, Some, option_map}
 use Rattle.std.proofs.Common.{refl, sym, ap, ◌∙◌, IsUtf8, nat_le}
 use Rattle.std.specs.List.{AllByRecursion, IsDistinct}
-use Rattle.std.proofs.lemmas.Bool.{and_from, false≢true}
+use Rattle.std.proofs.lemmas.Bool.{and_from}
 use Rattle.std.proofs.lemmas.Bool.{leb-true}
 use Rattle.std.proofs.lemmas.Slice.Eq.{bytes_eq-Decides}
 use Rattle.std.proofs.lemmas.Map.Made.{AllPairs-from_IsDistinct}
@@ -10,7 +10,7 @@ use Rattle.std.specs.Str.{bytes_eq}
 use Rattle.jzon.specs.Decimal.{Decimal, nan, parts}
 use Rattle.jzon.specs.PairList.{keys_of}
 use Rattle.jzon.specs.Value.{Value, null, boolean, text, number, array, object, Values, no_values, value, ValuePairs}
-use Rattle.jzon.specs.Value.{no_pairs, pair, kind_of, list_of_pairs, Kind, short, long}
+use Rattle.jzon.specs.Value.{no_pairs, pair, list_of_pairs, Kind, short, long}
 use Rattle.jzon.specs.SortedStyle.{is_before}
 use Rattle.jzon.specs.Text.{compact}
 use Rattle.jzon.specs.Lawful.{IsValue, AreValues, ArePairs, IsText, HasNoNan, HaveNoNan, PairsHaveNoNan, IsNumber}

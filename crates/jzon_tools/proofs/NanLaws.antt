@@ -1,5 +1,5 @@
 -- What it says of a value that a NaN is inside, or isn't.
-use Rattle.std.proofs.Common.{◌≡◌, true, false, sym, ◌⊎◌, inl, inr}
+use Rattle.std.proofs.Common.{◌≡◌, true, false, sym, inl, inr}
 use Rattle.std.proofs.lemmas.Bool.{false≢true, or_cases, or_parts}
 use Rattle.jzon.specs.Decimal.{nan, parts}
 use Rattle.jzon.specs.Lawful.{HasNoNan, HaveNoNan, PairsHaveNoNan}

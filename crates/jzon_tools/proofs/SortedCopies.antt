@@ -1,10 +1,10 @@
 -- A list of entries that std sorted by their keys, and the copy that is made of it.
 use Rattle.std.proofs.Common.{◌≡◌, ◌≤◌, ◌<◌, ◌+◌, ℕ, zero, suc, List, [], ◌∷◌, ◌++◌, Bool, true, false, cond, Option}
 use Rattle.std.proofs.Common.{None, Some, option_map, refl, sym, ap, ◌∙◌, subst, arith, length, get_or, map, Contains}
-use Rattle.std.proofs.Common.{IsPermutation, IsSortedByKey, Ordering, Less, slice_get, take, AllPairs, ◌≢◌}
+use Rattle.std.proofs.Common.{IsPermutation, IsSortedByKey, Ordering, Less, take, AllPairs, ◌≢◌}
 use Rattle.std.proofs.lemmas.List.{length-map}
 use Rattle.std.specs.Borrow.{Bor}
-use Rattle.std.specs.List.{AllByRecursion, IsDistinct, fold}
+use Rattle.std.specs.List.{AllByRecursion, IsDistinct}
 use Rattle.std.specs.List.Sorted.{IsStrictlySortedBy}
 use Rattle.std.specs.Str.{bytes_eq}
 use Rattle.std.specs.Cmp.Lexicographic.{slice_cmp}
@@ -16,13 +16,12 @@ use Rattle.std.proofs.lemmas.List.{take_more, take_all, map-append}
 use Rattle.std.proofs.lemmas.List.Sums.{fold-append}
 use Rattle.std.proofs.lemmas.Map.Made.{AllPairs-from_IsDistinct}
 use Rattle.std.proofs.lemmas.Map.Keys.{IsDistinct-head, IsDistinct-tail, IsDistinct-IsPermutation}
-use Rattle.jzon.specs.Entries.{entries_of}
 use Rattle.jzon.specs.JsonValue.{JsonValue}
 use Rattle.jzon.specs.Measure.{size, largest_under}
 use Rattle.jzon.specs.PairList.{find, keys_of, put, put_each}
 use Rattle.jzon.specs.SameLaws.{at, find-head, find-past}
 use Rattle.jzon.specs.SortedStyle.{is_before}
-use Rattle.jzon.specs.Value.{Value, ValuePairs, pair, pairs_of}
+use Rattle.jzon.specs.Value.{Value, pairs_of}
 use Rattle.jzon.specs.View.{view, viewed}
 use Rattle.jzon.proofs.InPlace.{size-member}
 use Rattle.jzon.proofs.PairLaws.{put_each-distinct}
