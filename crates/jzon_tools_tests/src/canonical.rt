@@ -71,7 +71,7 @@ fn equal_values_have_one_text(rt: HostRuntime) -> Tested {
 
 /// A short string that is allocated, and the same one inline.
 fn stored(alloc: Global, text: &str, is_inline: bool) -> Result<JsonValue, Fail> {
-    let string = if is_inline {
+    let string = if is_inline && text.len() <= 30 {
         JsonValue::Short(Short::from_slice(text))
     } else {
         JsonValue::String(String::from_str(alloc, text)?)
