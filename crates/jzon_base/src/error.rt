@@ -3,10 +3,14 @@
 ghost use Rattle.std.specs.Prelude.{◌≡◌, Some, IfOk, IsOkUnless};
 ghost use Rattle.jzon_base.specs.declared.error.Error.TheVariants.{OutOfMemory};
 ghost use Rattle.jzon_base.specs.ErrorPlace.{line_in, column_in};
-ghost use Rattle.jzon_base.specs.ErrorText.{error_text, IsWrongType};
+ghost use Rattle.jzon_base.specs.ErrorText.{error_text, io_kind, IsWrongType};
+ghost use Rattle.std.specs.IoError.{error_kind};
 
+use arrayvec::ArrayString;
 use std::alloc::{AllocError, AllocFailed, Global};
-use std::fmt;
+use std::fmt::Write;
+use std::io::ErrorKind;
+use std::{fmt, io};
 
 /// Why a text is rejected, or a call on a value fails. Below, `L` and `K` are the line and the
 /// column of a character in its text. Both are counted from 1, and a column in characters.
@@ -119,5 +123,26 @@ impl<T: Drop> From<AllocFailed<T>> for Error {
 
     fn from(_refused: AllocFailed<T>) -> Error {
         Error::OutOfMemory
+    }
+}
+
+/// So that `?` works in a `main` that returns an `io::Result`. The kind is `OutOfMemory`,
+/// `UnexpectedEof` if the text ends too early, or else `InvalidData`. The message is what `Display`
+/// prints, for a text's error at most 73 of the 80 bytes that an `io::Error` can hold. A word of
+/// `WrongType` that doesn't fit is left out.
+impl From<Error> for io::Error {
+    ghost from_gives = { λ e i. error_kind i ≡ io_kind e };
+
+    fn from(error: Error) -> io::Error {
+        let kind = match error {
+            Error::OutOfMemory => ErrorKind::OutOfMemory,
+            Error::UnexpectedEndOfJson => ErrorKind::UnexpectedEof,
+            _ => ErrorKind::InvalidData,
+        };
+        let mut words = ArrayString::<80>::new();
+        match write!(words, "{error}") {
+            Ok(()) | Err(_) => {}
+        }
+        io::Error::new(kind, words.as_str())
     }
 }

@@ -1,8 +1,10 @@
-//! The messages of errors.
+//! The messages of errors, and the `io::Error` that each becomes.
 
-use crate::common::{expect, expect_display};
+use crate::common::{expect, expect_display, expect_eq};
 use jzon_base::error::Error;
 use jzon_test_support::joined;
+use std::io;
+use std::io::ErrorKind::{InvalidData, OutOfMemory, UnexpectedEof};
 use std::test::Fail;
 
 fn unexpected(ch: char, line: usize, column: usize) -> Error {
@@ -12,32 +14,59 @@ fn unexpected(ch: char, line: usize, column: usize) -> Error {
 #[test]
 fn messages(rt: HostRuntime) -> std::result::Result<(), Fail> {
     let rows = [
-        (unexpected('X', 3, 4), "Unexpected character: X at (3:4)"),
         (
-            unexpected('\u{1F984}', usize::MAX, 10),
-            "Unexpected character: \u{1F984} at (18446744073709551615:10)",
+            unexpected('X', 3, 4),
+            "Unexpected character: X at (3:4)",
+            InvalidData,
         ),
-        (Error::UnexpectedEndOfJson, "Unexpected end of JSON"),
-        (Error::ExceededDepthLimit, "Exceeded depth limit"),
-        (Error::FailedUtf8Parsing, "Failed to parse UTF-8 bytes"),
-        (Error::OutOfMemory, "Out of memory"),
+        (
+            unexpected('\u{1F984}', usize::MAX, usize::MAX),
+            "Unexpected character: \u{1F984} at (18446744073709551615:18446744073709551615)",
+            InvalidData,
+        ),
+        (
+            Error::UnexpectedEndOfJson,
+            "Unexpected end of JSON",
+            UnexpectedEof,
+        ),
+        (
+            Error::ExceededDepthLimit,
+            "Exceeded depth limit",
+            InvalidData,
+        ),
+        (
+            Error::FailedUtf8Parsing,
+            "Failed to parse UTF-8 bytes",
+            InvalidData,
+        ),
+        (Error::OutOfMemory, "Out of memory", OutOfMemory),
         (
             Error::DuplicateKey { line: 1, column: 8 },
             "Duplicate key at (1:8)",
+            InvalidData,
         ),
         (
             Error::wrong_type(rt.alloc(), "Array")?,
             "Wrong type, expected: Array",
+            InvalidData,
         ),
-        (Error::wrong_type(rt.alloc(), "")?, "Wrong type, expected: "),
+        (
+            Error::wrong_type(rt.alloc(), "")?,
+            "Wrong type, expected: ",
+            InvalidData,
+        ),
     ];
-    for (error, message) in &rows {
-        expect_display(&rt, rt.alloc(), error, message)?;
+    for (error, message, kind) in rows {
+        expect_display(&rt, rt.alloc(), &error, message)?;
+        let raised = io::Error::from(error);
+        expect_eq(&rt, message, raised.kind(), kind);
+        let kept = format!(in rt.alloc(); "{raised}")?;
+        expect_eq(&rt, message, kept.as_str(), message);
     }
     Ok(())
 }
 
-/// The word of `WrongType` may be any.
+/// The word of `WrongType` may be any. An `io::Error` leaves it out if it doesn't fit.
 #[test]
 fn keeps_a_long_word(rt: HostRuntime) -> std::result::Result<(), Fail> {
     let word = joined(rt.alloc(), &[("Number or null", 10_000)])?;
@@ -47,9 +76,11 @@ fn keeps_a_long_word(rt: HostRuntime) -> std::result::Result<(), Fail> {
         &[("Wrong type, expected: ", 1), (word.as_str(), 1)],
     )?;
     expect_display(&rt, rt.alloc(), &error, message.as_str())?;
-    match error {
+    match &error {
         Error::WrongType(words) => expect(&rt, "the word", words.as_str() == word.as_str()),
         _ => expect(&rt, "another error", false),
     }
+    let raised = format!(in rt.alloc(); "{}", io::Error::from(error))?;
+    expect_eq(&rt, "too long", raised.as_str(), "Wrong type, expected: ");
     Ok(())
 }

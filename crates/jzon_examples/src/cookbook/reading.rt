@@ -2,40 +2,10 @@
 
 use jzon::{Error, JsonValue, LocatedError, Place, Reading, Result};
 use std::alloc::Global;
-use std::{fmt, fs, io};
-
-/// Why a file was not read.
-#[derive(Debug, Drop)]
-pub enum LoadError {
-    /// It can't be read, or isn't UTF-8.
-    Io(io::Error),
-    /// Its text is rejected.
-    Json(Error),
-}
-
-impl fmt::Display for LoadError {
-    fn fmt<W: fmt::Write>(&self, f: &mut fmt::Formatter<W>) -> fmt::Result {
-        match self {
-            LoadError::Io(error) => write!(f, "can't read the file: {error}"),
-            LoadError::Json(error) => write!(f, "{error}"),
-        }
-    }
-}
-
-impl From<io::Error> for LoadError {
-    fn from(error: io::Error) -> LoadError {
-        LoadError::Io(error)
-    }
-}
-
-impl From<Error> for LoadError {
-    fn from(error: Error) -> LoadError {
-        LoadError::Json(error)
-    }
-}
+use std::{fs, io};
 
 /// The value of a file.
-pub fn load(rt: &HostRuntime, path: &str) -> std::result::Result<JsonValue, LoadError> {
+pub fn load(rt: &HostRuntime, path: &str) -> io::Result<JsonValue> {
     let text = fs::read_to_string(rt, path)?;
     Ok(jzon::parse(rt.alloc(), text.as_str())?)
 }
