@@ -34,5 +34,6 @@ abbrev pub place_after : Option Place → Option ℕ → List ℕ
 place_after (Some p) None = codes " at " ++ place_text p.line p.column
 place_after _ _ = codes ""
 
+-- what `Display` shows of a `LocatedError`
 abbrev pub located_text : LocatedError → List ℕ
 located_text l = error_text l.error ++ place_after l.place (line_in l.error)

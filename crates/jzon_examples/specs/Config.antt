@@ -10,6 +10,7 @@ use Rattle.jzon.specs.Value.{Value}
 abbrev pub member : List ℕ → Value → Value
 member k v = or_null (find k (entries v))
 
+-- the port of the server, or null
 abbrev pub port_value : Value → Value
 port_value v = member (codes "port") (member (codes "server") v)
 

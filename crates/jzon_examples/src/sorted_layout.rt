@@ -1,4 +1,4 @@
-//! Layout of one's own, which prints the entries of each object in the order of their keys.
+//! A custom layout, which prints the entries of each object in the order of their keys.
 //!
 //! `sorted_style` allows that order alone, so the contract says that what is printed is sorted.
 

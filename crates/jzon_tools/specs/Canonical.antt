@@ -84,10 +84,12 @@ abbrev mutual
   has_nan (array vs) = have_nan vs
   has_nan (object ps) = pairs_have_nan ps
 
+  -- the same of elements
   pub have_nan : Values → Bool
   have_nan no_values = false
   have_nan (value v vs) = has_nan v || have_nan vs
 
+  -- the same of entries
   pub pairs_have_nan : ValuePairs → Bool
   pairs_have_nan no_pairs = false
   pairs_have_nan (pair k v ps) = has_nan v || pairs_have_nan ps

@@ -19,6 +19,7 @@ names_among names None = false
 names_among names (Some p) = is_among names p.0
 
 abbrev mutual
+  -- the value in which each entry with one of these names has the value "***"
   pub redacted : List (List ℕ) → Value → Value
   redacted names null = null
   redacted names (boolean b) = boolean b
@@ -27,10 +28,12 @@ abbrev mutual
   redacted names (array vs) = array (redacted_values names vs)
   redacted names (object ps) = object (redacted_pairs names ps)
 
+  -- the same of elements
   pub redacted_values : List (List ℕ) → Values → Values
   redacted_values names no_values = no_values
   redacted_values names (value v vs) = value (redacted names v) (redacted_values names vs)
 
+  -- the same of entries
   pub redacted_pairs : List (List ℕ) → ValuePairs → ValuePairs
   redacted_pairs names no_pairs = no_pairs
   redacted_pairs names (pair k v ps) =

@@ -32,11 +32,12 @@ each_found : (P : Value → Type 0) (ps : ValuePairs) (k : List ℕ) (v : Value)
 each_found P no_pairs k v each e = absurd (none-some v e)
 each_found P (pair l w ps) k v each e = each_cond P (bytes_eq l k) v w (at k ps) each.0 (each_found P ps k v each.1) e
 
--- a lookup at the head, for its key and for another one
 module _ {V : Type 0} where
+  -- a look-up of the first key
   pub find-head : (k : List ℕ) (v : V) (ps : List (List ℕ × V)) → find k ((k, v) ∷ ps) ≡ Some v
   find-head k v ps = rw ((bytes_eq-Decides k k).1 refl) refl
 
+  -- a look-up of another key goes past it
   pub find-past : (l k : List ℕ) (w : V) (ps : List (List ℕ × V)) → bytes_eq l k ≡ false
       → find k ((l, w) ∷ ps) ≡ find k ps
   find-past l k w ps e = rw e refl

@@ -1,7 +1,7 @@
 //! Mutable references to the parts of a value (docs/RULES.md, "Readers" and "Changers"). The
 //! checker proves what is written back through a reference only if its type isn't that of the
-//! receiver (docs/TOOLCHAIN.md, "1. Prove a `&mut T` out of a `T`"). So three calls have their
-//! bodies in the trait `Tree`: `get_in`, `at_in` and `at_index_in`.
+//! receiver (docs/TOOLCHAIN.md, "A `&mut T` out of a `T`"). So three calls have their bodies
+//! in the trait `Tree`: `get_in`, `at_in` and `at_index_in`.
 
 ghost use Rattle.std.specs.Prelude.{◌≡◌, ◌≤◌, [], length, slice_get, slice_set, IfOk, OnErr, IfSome, IsOkUnless, None, Some, unwrap_or};
 ghost use Rattle.std.specs.Borrow.{sem, LendsIf, LendsIfOk, LendsSoOk};

@@ -29,6 +29,7 @@ stop_offset (Duplicate i) = i
 abbrev pub place_at : List ℕ → ℕ → Place
 place_at bytes i = record { offset = i; line = line (chars (take i bytes)); column = column (chars (take i bytes)) }
 
+-- the place that a stop reports: none if memory ran out
 abbrev pub stop_place : List ℕ → Stop → Option Place
 stop_place bytes Memory = None
 stop_place bytes e = Some (place_at bytes (stop_offset e))

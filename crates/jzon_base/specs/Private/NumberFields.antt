@@ -21,6 +21,7 @@ HasNoParts Nan m e = (m ≡ 0) × (e ≡ pos 0)
 abbrev pub fields_at : Category → ℕ → ℤ → Inside
 fields_at c m e = record { category = c; narrow_gap = 0; exponent = e; wide_gap = 0; mantissa = m }
 
+-- the fields of the `Number` that has this decimal
 abbrev pub number_fields : Decimal → Inside
 number_fields nan = fields_at Nan 0 (pos 0)
 number_fields (parts true m e) = fields_at Positive m e

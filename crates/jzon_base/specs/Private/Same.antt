@@ -22,6 +22,7 @@ pub scaled-pos : (m : ℕ) (e : ℤ) → 0 < m → 0 < scaled m e
 unfolding scaled
 scaled-pos m e h = one-le-mul h (one-le-pow (shifted e) 10 (lit≤ tt))
 
+-- when a scaled mantissa is 0
 pub ruleset zero_rules = (scaled-zero, scaled-pos)
 
 -- the classes of equal decimals: NaN, the zeros, and else a sign and an exact decimal

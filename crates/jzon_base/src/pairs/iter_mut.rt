@@ -1,6 +1,6 @@
 //! An iterator over entries whose values may be written, from both ends. No clause says what is
-//! written through a value (docs/TOOLCHAIN.md, "10. Clauses for iterators, and for allocations that
-//! succeed").
+//! written through a value (docs/TOOLCHAIN.md, "Clauses for mutable iterators, and for allocations
+//! that succeed").
 ghost use Rattle.std.specs.Prelude.{◌≡◌, [], length, IfSome, Some};
 ghost use Rattle.std.specs.Iterator.{YieldsFirstBy, YieldsLastBy, item_count, at_most, UpTo};
 ghost use Rattle.std.specs.Iterator.SizeHint.{IsWithinCount};

@@ -1,4 +1,4 @@
-//! A function with a contract of its own. docs/COOKBOOK.md goes through its proof.
+//! A function with a contract of its own. docs/CHECKER.md goes through its proof.
 
 ghost use Rattle.std.specs.Prelude.{◌≡◌, codes, false, OnOk, Some};
 ghost use Rattle.jzon.specs.PairList.{find};

@@ -1,4 +1,4 @@
-//! A generator of one's own: each line begins with a tab for each container around it, up to 64.
+//! A custom generator: each line begins with a tab for each container around it, up to 64.
 
 ghost use Rattle.std.specs.Prelude.{◌≤◌, IfOk, IsTrue, string_bytes};
 ghost use Rattle.jzon.specs.Laws.{IsReadAs};

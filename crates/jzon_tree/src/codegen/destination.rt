@@ -1,4 +1,4 @@
-//! Where a `TextGenerator` writes (docs/GENERATORS.md, "Layouts of one's own").
+//! Where a `TextGenerator` writes (docs/GENERATORS.md, "Custom layouts").
 
 ghost use Rattle.std.specs.Prelude.{◌≡◌, ◌++◌, ◌∷◌, [], ℕ, List, Option, None, Some, IsTrue, false, refl, replicate};
 ghost use Rattle.std.specs.Borrow.{GName, sem, Lends};

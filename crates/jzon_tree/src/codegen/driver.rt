@@ -22,7 +22,7 @@ use std::io;
 /// of each object are in the order that `order` returned for it.
 ///
 /// An `Err` is that of the first hook that failed. Nothing is written after it: the bytes added are
-/// a prefix of a writing of the value, and the indents that were open then stay open. It is
+/// a prefix of a text of the value, and the indents that were open then stay open. It is
 /// returned after one more pass over the whole value, which only the proof needs.
 ///
 /// ```rust

@@ -1,5 +1,5 @@
 //! Layouts: the whitespace of a text, which is written here, and the order of an object's entries
-//! (docs/GENERATORS.md, "Layouts of one's own").
+//! (docs/GENERATORS.md, "Custom layouts").
 
 ghost use Rattle.std.specs.Prelude.{◌≡◌, ◌+◌, ◌<◌, ◌≤◌, length, take, ◌∷◌, ◌++◌, Bool, true, false, IsTrue, IfOk, Ok, None, OnErr, IsSome, replicate};
 ghost use Rattle.jzon_base.specs.PairList.{keys_of};
