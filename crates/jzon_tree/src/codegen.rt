@@ -1,6 +1,6 @@
 //! Printing: generators and layouts (docs/GENERATORS.md). `driver` goes over a value and
 //! calls the hooks of a `generator`; `text_generator` has the generators of the crate, which write
-//! to a `destination` by `strings`, `numbers` and `layout`.
+//! to a `destination` by `pieces`, `strings` and `layout`.
 //!
 //! ```text
 //! trait        implemented by                                used by
@@ -20,7 +20,7 @@ pub(crate) mod driver;
 mod error_slot;
 mod generator;
 mod layout;
-mod numbers;
+mod pieces;
 mod strings;
 mod text_generator;
 

@@ -1,16 +1,6 @@
-//! A buffer of fixed size, to which short pieces of a text are added in a few stores. A `put_..`
-//! adds all and returns `true`, or adds nothing and returns `false`: then the piece is long, needs
-//! an escape, or might not fit. 10 is a newline, and 32 a space.
+//! A buffer of fixed size.
 
-ghost use Rattle.std.specs.Prelude.{◌≡◌, ◌+◌, ◌≤◌, ◌++◌, ◌∷◌, [], IsTrue, false, length, replicate};
-ghost use Rattle.jzon_base.specs.NumberText.{written_text};
-ghost use Rattle.jzon_tree.specs.Text.{quoted};
-ghost use Rattle.jzon_tree.specs.Writing.{colon_text};
-
-use crate::codegen::layout::put_spaces;
-use crate::codegen::strings::{BY_ENDS_ROOM, put_short};
-use jzon_base::number::Number;
-use jzon_base::util::print_dec::{DIGITS_ROOM, put_digits};
+ghost use Rattle.std.specs.Prelude.{◌≡◌, ◌+◌, ◌≤◌, ◌++◌, [], length};
 
 /// How many bytes a buffer holds at most. More are dearer to clear at the start of each call, and
 /// fewer make the writer be called more often.
@@ -18,9 +8,9 @@ const BUFFER_LEN: usize = 1024;
 
 /// The first `len` bytes of an array.
 #[derive(Drop)]
-pub(crate) struct Buffer {
-    bytes: [u8; BUFFER_LEN],
-    len: usize,
+pub struct Buffer {
+    pub(super) bytes: [u8; BUFFER_LEN],
+    pub(super) len: usize,
     ghost size: { length bytes ≡ 1024 },
     ghost within: { len ≤ 1024 },
 }
@@ -80,88 +70,5 @@ impl Buffer {
         let end = self.len + bytes.len();
         self.bytes[self.len..end].copy_from_slice(bytes);
         self.len = end;
-    }
-
-    #[inline(always)]
-    pub(super) fn put_byte(&mut self, byte: u8) -> bool
-        ensures done { IsTrue result → buffer_items self.new ≡ buffer_items self.old ++ byte ∷ [] }
-        ensures left { result ≡ false → buffer_items self.new ≡ buffer_items self.old }
-        ensures len { self.old.len ≤ self.new.len }
-    {
-        if self.len == BUFFER_LEN {
-            return false;
-        }
-        self.bytes[self.len] = byte;
-        self.len += 1;
-        true
-    }
-
-    /// Adds a string of at most 32 bytes in quotes if it needs no escape.
-    #[inline(always)]
-    pub(super) fn put_string(&mut self, string: &[u8]) -> bool
-        ensures done { IsTrue result → buffer_items self.new
-            ≡ buffer_items self.old ++ quoted string.now }
-        ensures left { result ≡ false → buffer_items self.new ≡ buffer_items self.old }
-        ensures len { self.old.len ≤ self.new.len }
-    {
-        if BUFFER_LEN - self.len < BY_ENDS_ROOM || !put_short(&mut self.bytes, self.len, string) {
-            return false;
-        }
-        self.len += string.len() + 2;
-        true
-    }
-
-    /// Adds such a string in quotes with a colon and, if `wide`, a space.
-    #[inline(always)]
-    pub(super) fn put_key(&mut self, key: &[u8], wide: bool) -> bool
-        ensures done { IsTrue result → buffer_items self.new
-            ≡ buffer_items self.old ++ (quoted key.now ++ colon_text wide) }
-        ensures left { result ≡ false → buffer_items self.new ≡ buffer_items self.old }
-        ensures len { self.old.len ≤ self.new.len }
-    {
-        if BUFFER_LEN - self.len < BY_ENDS_ROOM + 2 || !put_short(&mut self.bytes, self.len, key) {
-            return false;
-        }
-        let end = self.len + (key.len() + 2);
-        self.bytes[end] = b':';
-        self.bytes[end + 1] = b' ';
-        self.len = end + 1 + usize::from(wide);
-        true
-    }
-
-    /// Adds the text of a common number (`put_digits`).
-    #[inline(always)]
-    pub(super) fn put_number(&mut self, number: &Number) -> bool
-        ensures done { IsTrue result → buffer_items self.new
-            ≡ buffer_items self.old ++ written_text number.now }
-        ensures left { result ≡ false → buffer_items self.new ≡ buffer_items self.old }
-        ensures len { self.old.len ≤ self.new.len }
-    {
-        if BUFFER_LEN - self.len < DIGITS_ROOM {
-            return false;
-        }
-        let (positive, mantissa, exponent) = number.as_parts();
-        let end = put_digits(&mut self.bytes, self.len, positive, mantissa, exponent);
-        if end == self.len {
-            return false;
-        }
-        self.len = end;
-        true
-    }
-
-    /// Adds a newline and `spaces` spaces if there are fewer than 8.
-    #[inline(always)]
-    pub(super) fn put_line(&mut self, spaces: u128) -> bool
-        ensures done { IsTrue result → buffer_items self.new
-            ≡ buffer_items self.old ++ 10 ∷ replicate spaces 32 }
-        ensures left { result ≡ false → buffer_items self.new ≡ buffer_items self.old }
-        ensures len { self.old.len ≤ self.new.len }
-    {
-        if spaces >= 8 || BUFFER_LEN - self.len < 8 {
-            return false;
-        }
-        put_spaces(&mut self.bytes, self.len);
-        self.len += spaces as usize + 1;
-        true
     }
 }

@@ -5,7 +5,7 @@ ghost use Rattle.std.specs.Io.KnownBytes.{Appends, Keeps};
 
 use crate::codegen::buffer::Buffer;
 use crate::codegen::destination::Outlet;
-use jzon_base::number::Number;
+use crate::codegen::pieces::Piece;
 use std::io::{self, ErrorKind, Write};
 use std::marker::{Brand, PhantomData};
 
@@ -191,27 +191,7 @@ impl<W: Write, S: Start> Write for Buffered<'_, W, S> {
 /// Where there is room, bytes, short strings, digits and short lines are added at once.
 impl<W: Write, S: Start> Outlet for Buffered<'_, W, S> {
     #[inline(always)]
-    fn put_byte(&mut self, byte: u8) -> bool {
-        self.buffer.put_byte(byte)
-    }
-
-    #[inline(always)]
-    fn put_string(&mut self, string: &[u8]) -> bool {
-        self.buffer.put_string(string)
-    }
-
-    #[inline(always)]
-    fn put_key(&mut self, key: &[u8], wide: bool) -> bool {
-        self.buffer.put_key(key, wide)
-    }
-
-    #[inline(always)]
-    fn put_number(&mut self, number: &Number) -> bool {
-        self.buffer.put_number(number)
-    }
-
-    #[inline(always)]
-    fn put_line(&mut self, spaces: u128) -> bool {
-        self.buffer.put_line(spaces)
+    fn put<P: Piece>(&mut self, piece: P) -> bool {
+        piece.put(&mut self.buffer)
     }
 }

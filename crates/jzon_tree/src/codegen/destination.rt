@@ -1,56 +1,26 @@
 //! Where a `TextGenerator` writes (docs/GENERATORS.md, "Custom layouts").
 
-ghost use Rattle.std.specs.Prelude.{◌≡◌, ◌++◌, ◌∷◌, [], ℕ, List, Option, None, Some, IsTrue, false, refl, replicate};
+ghost use Rattle.std.specs.Prelude.{◌≡◌, ℕ, List, Option, None, Some, IsTrue, false, refl};
 ghost use Rattle.std.specs.Borrow.{GName, sem, Lends};
-ghost use Rattle.jzon_base.specs.NumberText.{written_text};
 ghost use Rattle.jzon_tree.specs.Generator.{Adds, Just};
 ghost use Rattle.jzon_tree.specs.Generators.{bytes_in, with_bytes};
-ghost use Rattle.jzon_tree.specs.Text.{quoted};
-ghost use Rattle.jzon_tree.specs.Writing.{colon_text};
 
-use crate::codegen::layout::push_line;
-use crate::codegen::numbers::push_digits;
-use crate::codegen::strings::{BY_ENDS_ROOM, push_short};
-use jzon_base::number::Number;
+use crate::codegen::pieces::Piece;
 use std::io::Write;
 
-/// A writer with the `put_..` of `Destination`. `Buffered` alone is one. By this trait
-/// `TextGenerator` names no struct with a ghost field, beside whose `&mut` the borrow checker
-/// admits no other type arguments.
+/// A writer with the `put` of `Destination`. `Buffered` alone is one. By this trait `TextGenerator`
+/// names no struct with a ghost field, beside whose `&mut` the borrow checker admits no other type
+/// arguments.
 pub(crate) trait Outlet: Write {
-    fn put_byte(&mut self, byte: u8) -> bool
-        ensures done { IsTrue result → Adds (Just (byte ∷ []))
-            (Self.Write.contents self.old) (Self.Write.contents self.new) }
-        ensures left { result ≡ false → Self.Write.contents self.new
-            ≡ Self.Write.contents self.old };
-
-    fn put_string(&mut self, string: &[u8]) -> bool
-        ensures done { IsTrue result → Adds (Just (quoted string.now))
-            (Self.Write.contents self.old) (Self.Write.contents self.new) }
-        ensures left { result ≡ false → Self.Write.contents self.new
-            ≡ Self.Write.contents self.old };
-
-    fn put_key(&mut self, key: &[u8], wide: bool) -> bool
-        ensures done { IsTrue result → Adds (Just (quoted key.now ++ colon_text wide))
-            (Self.Write.contents self.old) (Self.Write.contents self.new) }
-        ensures left { result ≡ false → Self.Write.contents self.new
-            ≡ Self.Write.contents self.old };
-
-    fn put_number(&mut self, number: &Number) -> bool
-        ensures done { IsTrue result → Adds (Just (written_text number.now))
-            (Self.Write.contents self.old) (Self.Write.contents self.new) }
-        ensures left { result ≡ false → Self.Write.contents self.new
-            ≡ Self.Write.contents self.old };
-
-    fn put_line(&mut self, spaces: u128) -> bool
-        ensures done { IsTrue result → Adds (Just (10 ∷ replicate spaces 32))
+    fn put<P: Piece>(&mut self, piece: P) -> bool
+        ensures done { IsTrue result → Adds (Just (P.text piece))
             (Self.Write.contents self.old) (Self.Write.contents self.new) }
         ensures left { result ≡ false → Self.Write.contents self.new
             ≡ Self.Write.contents self.old };
 }
 
 /// Where a `TextGenerator` writes: memory of its own, a borrowed writer, or such a writer with a
-/// buffer before it. A provided method adds nothing, so the generator then writes to the writer.
+/// buffer before it. The provided `put` adds nothing, so the generator then writes to the writer.
 pub trait Destination {
     /// The writer.
     type T: Write;
@@ -69,54 +39,10 @@ pub trait Destination {
             (with_writer self.old)) }
         ensures bytes { Self.T.contents result.now ≡ out self.old };
 
-    /// Adds the byte, or nothing.
+    /// Adds the piece, or nothing.
     #[inline(always)]
-    fn put_byte(&mut self, byte: u8) -> bool
-        ensures done { IsTrue result → Adds (Just (byte ∷ [])) (out self.old) (out self.new) }
-        ensures left { result ≡ false → out self.new ≡ out self.old }
-        ensures lender { lender self.new ≡ lender self.old }
-    {
-        false
-    }
-
-    /// Adds the string in quotes, escaped, or nothing.
-    #[inline(always)]
-    fn put_string(&mut self, string: &[u8]) -> bool
-        ensures done { IsTrue result → Adds (Just (quoted string.now)) (out self.old)
-            (out self.new) }
-        ensures left { result ≡ false → out self.new ≡ out self.old }
-        ensures lender { lender self.new ≡ lender self.old }
-    {
-        false
-    }
-
-    /// Adds the key in quotes, escaped, with its colon and, if `wide`, a space; or nothing.
-    #[inline(always)]
-    fn put_key(&mut self, key: &[u8], wide: bool) -> bool
-        ensures done { IsTrue result → Adds (Just (quoted key.now ++ colon_text wide))
-            (out self.old) (out self.new) }
-        ensures left { result ≡ false → out self.new ≡ out self.old }
-        ensures lender { lender self.new ≡ lender self.old }
-    {
-        false
-    }
-
-    /// Adds the text of the number, `null` for NaN, or nothing.
-    #[inline(always)]
-    fn put_number(&mut self, number: &Number) -> bool
-        ensures done { IsTrue result → Adds (Just (written_text number.now)) (out self.old)
-            (out self.new) }
-        ensures left { result ≡ false → out self.new ≡ out self.old }
-        ensures lender { lender self.new ≡ lender self.old }
-    {
-        false
-    }
-
-    /// Adds a newline and `spaces` spaces, or nothing.
-    #[inline(always)]
-    fn put_line(&mut self, spaces: u128) -> bool
-        ensures done { IsTrue result → Adds (Just (10 ∷ replicate spaces 32)) (out self.old)
-            (out self.new) }
+    fn put<P: Piece>(&mut self, piece: P) -> bool
+        ensures done { IsTrue result → Adds (Just (P.text piece)) (out self.old) (out self.new) }
         ensures left { result ≡ false → out self.new ≡ out self.old }
         ensures lender { lender self.new ≡ lender self.old }
     {
@@ -129,9 +55,7 @@ pub trait Destination {
     ghost lender_law: { (o : Self) (w : Self.T) → lender (with_writer o w) ≡ lender o };
 }
 
-/// Memory of its own. `put_byte` stores less of the vector than `write` does. Each other `put_..`
-/// adds only what is short (`push_short`, `push_digits`, `push_line`), and only if there is room.
-/// All else is left to `writer`, by which the vector grows.
+/// Memory of its own. What `put` doesn't add is left to `writer`, by which the vector grows.
 #[derive(Debug, Drop)]
 pub struct Memory {
     pub(super) bytes: Vec<u8>,
@@ -149,41 +73,8 @@ impl Destination for Memory {
     }
 
     #[inline(always)]
-    fn put_byte(&mut self, byte: u8) -> bool {
-        if self.bytes.len() == self.bytes.capacity() {
-            return false;
-        }
-        self.bytes.push_reserved(byte);
-        true
-    }
-
-    #[inline(always)]
-    fn put_string(&mut self, string: &[u8]) -> bool {
-        push_short(&mut self.bytes, string)
-    }
-
-    #[inline(always)]
-    fn put_key(&mut self, key: &[u8], wide: bool) -> bool {
-        let bytes = &mut self.bytes;
-        // There is room for what `push_short` adds at most, for the colon and for the space.
-        if bytes.capacity() - bytes.len() < BY_ENDS_ROOM + 2 || !push_short(bytes, key) {
-            return false;
-        }
-        bytes.push_reserved(b':');
-        if wide {
-            bytes.push_reserved(b' ');
-        }
-        true
-    }
-
-    #[inline(always)]
-    fn put_number(&mut self, number: &Number) -> bool {
-        push_digits(&mut self.bytes, number)
-    }
-
-    #[inline(always)]
-    fn put_line(&mut self, spaces: u128) -> bool {
-        push_line(&mut self.bytes, spaces)
+    fn put<P: Piece>(&mut self, piece: P) -> bool {
+        piece.push(&mut self.bytes)
     }
 
     ghost out_law = { λ _ _. refl };
@@ -230,28 +121,8 @@ impl<'a, W: Outlet> Destination for Through<'a, W> {
     }
 
     #[inline(always)]
-    fn put_byte(&mut self, byte: u8) -> bool {
-        self.outlet.put_byte(byte)
-    }
-
-    #[inline(always)]
-    fn put_string(&mut self, string: &[u8]) -> bool {
-        self.outlet.put_string(string)
-    }
-
-    #[inline(always)]
-    fn put_key(&mut self, key: &[u8], wide: bool) -> bool {
-        self.outlet.put_key(key, wide)
-    }
-
-    #[inline(always)]
-    fn put_number(&mut self, number: &Number) -> bool {
-        self.outlet.put_number(number)
-    }
-
-    #[inline(always)]
-    fn put_line(&mut self, spaces: u128) -> bool {
-        self.outlet.put_line(spaces)
+    fn put<P: Piece>(&mut self, piece: P) -> bool {
+        self.outlet.put(piece)
     }
 
     ghost out_law = { λ _ _. refl };

@@ -20,7 +20,7 @@ pub(super) const BY_ENDS_ROOM: usize = BY_ENDS_MAX_LEN + 2;
 
 /// Adds a string of at most 32 bytes in quotes if it needs no escape and there is room for 34
 /// bytes, and returns whether it did.
-// By `len` and `capacity`, `put_key` of memory knows that there is still room for a colon.
+// By `len` and `capacity`, the piece of a key knows that there is still room for a colon.
 #[inline(always)]
 pub(super) fn push_short(bytes: &mut Vec<u8>, string: &[u8]) -> bool
     ensures done { IsTrue result → bytes.new.items ≡ bytes.old.items ++ quoted string.now }

@@ -1,5 +1,5 @@
 //! The generators of the crate: they write a text in a layout, into memory of their own or to a
-//! borrowed writer. A `put_..` of the destination adds all or nothing; if nothing, the bytes go to
+//! borrowed writer. `put` of the destination adds a piece or nothing; if nothing, the bytes go to
 //! the destination's writer, by `send`. `write_string` calls `try_write_string` with an error
 //! slot of its own, as other hooks do.
 
@@ -16,6 +16,7 @@ use crate::codegen::destination::{Destination, Memory, Outlet, Through};
 use crate::codegen::error_slot::{ErrorSlot, SlotResult, send, take_result};
 use crate::codegen::generator::Generator;
 use crate::codegen::layout::{Compact, Layout, Pretty, send_line};
+use crate::codegen::pieces::{Line, Quoted, QuotedKey};
 use crate::object::Object;
 use jzon_base::error::{Error, Result};
 use jzon_base::number::Number;
@@ -74,7 +75,7 @@ impl<P: Destination, L: Layout> TextGenerator<P, L> {
             (text_meaning P.out P.lender L.style self.new) result }
         ensures slot { OnErr result (IsSome slot.new) }
     {
-        if self.destination.put_number(num) {
+        if self.destination.put(num) {
             return Ok(());
         }
         self.write_number_text(num, slot)
@@ -187,7 +188,7 @@ impl<P: Destination, L: Layout> Generator for TextGenerator<P, L> {
 
     #[inline(always)]
     fn try_write_char(&mut self, ch: u8, slot: &mut ErrorSlot) -> SlotResult<()> {
-        if self.destination.put_byte(ch) {
+        if self.destination.put(ch) {
             return Ok(());
         }
         self.try_write(&[ch], slot)
@@ -195,7 +196,7 @@ impl<P: Destination, L: Layout> Generator for TextGenerator<P, L> {
 
     #[inline(always)]
     fn try_write_string(&mut self, string: &str, slot: &mut ErrorSlot) -> SlotResult<()> {
-        if self.destination.put_string(string.as_bytes()) {
+        if self.destination.put(Quoted(string.as_bytes())) {
             return Ok(());
         }
         self.try_write_escaped(b"\"", string.as_bytes(), slot)
@@ -203,7 +204,7 @@ impl<P: Destination, L: Layout> Generator for TextGenerator<P, L> {
 
     fn try_write_key(&mut self, key: &str, slot: &mut ErrorSlot) -> SlotResult<()> {
         let wide = self.layout.spaces().is_some();
-        if self.destination.put_key(key.as_bytes(), wide) {
+        if self.destination.put(QuotedKey(key.as_bytes(), wide)) {
             return Ok(());
         }
         self.try_write_string(key, slot)?;
@@ -214,7 +215,7 @@ impl<P: Destination, L: Layout> Generator for TextGenerator<P, L> {
         if num.as_parts().2 != 0 {
             return self.write_decimal(num, slot);
         }
-        if self.destination.put_number(num) {
+        if self.destination.put(num) {
             return Ok(());
         }
         self.write_number_text(num, slot)
@@ -226,7 +227,7 @@ impl<P: Destination, L: Layout> Generator for TextGenerator<P, L> {
             return Ok(());
         };
         let spaces = self.dent as u128 * spaces as u128;
-        if self.destination.put_line(spaces) {
+        if self.destination.put(Line(spaces)) {
             return Ok(());
         }
         let step = send_line(self.destination.writer(), spaces, slot);

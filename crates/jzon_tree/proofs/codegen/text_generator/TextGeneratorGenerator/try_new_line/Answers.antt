@@ -9,19 +9,19 @@ use Rattle.jzon_tree.proofs.Printing.Appends.{adds_weaker}
 use Rattle.jzon_tree.specs.Generator.{Just}
 use Rattle.jzon_tree.proofs.codegen.text_generator.TextGeneratorGenerator.try_new_line.Goals as goal
 
-pub returns-then-put_line-clause-bytes : goal.returns-then-put_line-clause-bytes
-returns-then-put_line-clause-bytes g c =
+pub returns-then-put-clause-bytes : goal.returns-then-put-clause-bytes
+returns-then-put-clause-bytes g c =
     let s = c.args.self.now in
     let style = g.L.Layout.style s.layout in
     let n = c.in-Some.spaces in
     let laid : LaysOut style (Some n) = rw c.in-Some.is at c.spaces.ensures in
     record {
       bytes = adds_weaker (Just ((pretty_layout n).line s.dent)) (IsAllowedWhitespace style s.dent) _ _
-          (λ x e. rw e (spaces_are_whitespace false (s.dent * n), laid.0 s.dent)) (c.put_line.ensures.done c.if-put_line.true);
+          (λ x e. rw e (spaces_are_whitespace false (s.dent * n), laid.0 s.dent)) (c.put.ensures.done c.if-put.true);
       dent = refl;
       faults = refl;
       style = refl;
-      lender = c.put_line.ensures.lender;
+      lender = c.put.ensures.lender;
     }
 
 pub returns-clause-bytes : goal.returns-clause-bytes
@@ -30,12 +30,12 @@ returns-clause-bytes g c =
     let style = g.L.Layout.style s.layout in
     let n = c.in-Some.spaces in
     let laid : LaysOut style (Some n) = rw c.in-Some.is at c.spaces.ensures in
-    let destination = c.put_line.new.self in
+    let destination = c.put.new.self in
     let writer = c.send_line-step.new.writer in
     Emits-counted (IsAllowedWhitespace style s.dent) ((pretty_layout n).line s.dent)
     (text_meaning g.P.Destination.out g.P.Destination.lender g.L.Layout.style s) _ _ _ _ _ _
     (spaces_are_whitespace false (s.dent * n), laid.0 s.dent)
-    (c.writer.ensures.bytes ∙ c.put_line.ensures.left c.if-put_line.false) c.send_line-step.ensures.bytes
+    (c.writer.ensures.bytes ∙ c.put.ensures.left c.if-put.false) c.send_line-step.ensures.bytes
     (same_emitted (g.met.P.Destination.out_law destination writer)
-    (g.met.P.Destination.lender_law destination writer ∙ c.put_line.ensures.lender))
+    (g.met.P.Destination.lender_law destination writer ∙ c.put.ensures.lender))
     c.count_fault.ensures.result c.count_fault.ensures.faults

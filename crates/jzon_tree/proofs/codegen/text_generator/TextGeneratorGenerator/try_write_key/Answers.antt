@@ -25,7 +25,7 @@ returns-in_err-try_write_string-clause-bytes g c =
     Emits-at_err _ _ _ _ c.from_residual.ensures.0 (Failed-begins (Just (quoted k)) (IsKey (g.L.Layout.style s.layout) k)
     _ _ (key_begins (g.L.Layout.style s.layout) k (g.met.L.Layout.style_law s.layout))
     (subst (λ (m : Emitted). Failed (Just (quoted k)) m end)
-    (same_emitted (c.put_key.ensures.left c.if-put_key.false) c.put_key.ensures.lender)
+    (same_emitted (c.put.ensures.left c.if-put.false) c.put.ensures.lender)
     c.in_err-try_write_string.ensures.bytes))
 
 pub returns-clause-bytes : goal.returns-clause-bytes
@@ -36,5 +36,5 @@ returns-clause-bytes g c =
     Emits-after (Just (quoted k)) (λ _ _. Just (take (1 + c.from.result) (58 ∷ 32 ∷ []))) (IsKey style k) _ _ _
     (λ x y. laid_key style c.spaces.result _ _ k x y c.is_some-wide.ensures c.from.ensures c.spaces.ensures)
     (subst (λ (m : Emitted). Added (Just (quoted k)) m mid)
-    (same_emitted (c.put_key.ensures.left c.if-put_key.false) c.put_key.ensures.lender)
+    (same_emitted (c.put.ensures.left c.if-put.false) c.put.ensures.lender)
     c.in_ok-try_write_string.ensures.bytes) _ c.try_write.ensures.bytes
