@@ -29,14 +29,6 @@ impl Buffer {
         }
     }
 
-    #[inline(always)]
-    pub(super) fn len(&self) -> usize
-        ensures value { result ≡ self.now.len }
-        ensures items { result ≡ length (buffer_items self.now) }
-    {
-        self.len
-    }
-
     /// How many more bytes there is room for.
     #[inline(always)]
     pub(super) fn free(&self) -> usize
@@ -50,14 +42,6 @@ impl Buffer {
         ensures { result.now ≡ buffer_items self.now }
     {
         &self.bytes[..self.len]
-    }
-
-    #[inline(always)]
-    pub(super) fn clear(&mut self)
-        ensures items { buffer_items self.new ≡ [] }
-        ensures len { self.new.len ≡ 0 }
-    {
-        self.len = 0;
     }
 
     /// Adds bytes for which there is room.

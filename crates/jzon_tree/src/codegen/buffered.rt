@@ -96,7 +96,7 @@ impl<'a, W: Write, S: Start> Buffered<'a, W, S> {
     {
         // It stays so if the writer fails.
         self.has_failed = true;
-        while self.taken < self.buffer.len() {
+        while self.taken < self.buffer.len {
             let buffer = &self.buffer;
             let count = self.inner.write(&buffer.as_slice()[self.taken..])?;
             if count == 0 {
@@ -106,7 +106,7 @@ impl<'a, W: Write, S: Start> Buffered<'a, W, S> {
         }
         self.has_failed = false;
         self.taken = 0;
-        self.buffer.clear();
+        self.buffer.len = 0;
         Ok(())
     }
 

@@ -2,10 +2,10 @@
 //! that is being written. Calls that print ensure `IsValue` too, because the laws on reading back
 //! need it.
 
-ghost use Rattle.std.specs.Prelude.{◌≡◌, [], ◌<◌, ◌≤◌, ◌^◌, OnOk, OnErr, IfOk, IsOkUnless, string_bytes};
+ghost use Rattle.std.specs.Prelude.{◌≡◌, ◌<◌, ◌≤◌, ◌^◌, OnOk, OnErr, IfOk, IsOkUnless, string_bytes};
 ghost use Rattle.std.specs.Io.KnownBytes.{Appends};
 ghost use Rattle.jzon_base.specs.Written.{AppendsBeginning};
-ghost use Rattle.jzon_tree.specs.Private.Buffered.{held, known_len, left};
+ghost use Rattle.jzon_tree.specs.Private.Buffered.{known_len};
 ghost use Rattle.jzon_tree.specs.Generator.{Sends};
 ghost use Rattle.jzon_tree.specs.Lawful.{IsValue};
 ghost use Rattle.jzon_tree.specs.Styles.{compact_style, pretty_style};
@@ -151,27 +151,12 @@ fn write_in<W: Write, L: Layout + Drop, S: Start>(
     ensures value { IsValue (view json.now) }
 {
     let mut buffered: Buffered<'_, W, S> = Buffered::new(writer);
-    let answer = write_held(json, &mut buffered, layout);
+    let answer = write_outlet(json, &mut buffered, layout);
+    let answer = buffered.finish(answer);
     let inner = buffered.into_writer();
     // No effect at run time. From this use the proof learns what the writer holds.
     let _ = &*inner;
     answer
-}
-
-/// Writes the text after what is held, and writes out the buffer.
-#[inline(always)]
-fn write_held<W: Write, L: Layout + Drop, S: Start>(
-    json: &JsonValue,
-    buffered: &mut Buffered<'_, W, S>,
-    layout: L,
-) -> io::Result<()>
-    ensures writing { Sends (Writes (L.style layout) 0 (view json.now))
-        (held W.contents S.start buffered.old) (held W.contents S.start buffered.new) result }
-    ensures all { OnOk result (left buffered.new ≡ []) }
-    ensures value { IsValue (view json.now) }
-{
-    let answer = write_outlet(json, buffered, layout);
-    buffered.finish(answer)
 }
 
 /// Writes the text of the value in the layout to an outlet. It is generic because the borrow checker
