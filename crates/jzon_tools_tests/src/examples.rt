@@ -1,7 +1,10 @@
 //! The code that docs/TOOLS.md quotes.
 
 use crate::common::Tested;
+use jzon::JsonValue;
 use jzon_tools::canonical::{canonical_text, sort_keys};
+use jzon_tools::pointer::PointerError::Missing;
+use jzon_tools::pointer::{self, Reason};
 use jzon_tools::redact::redact;
 
 #[test]
@@ -23,5 +26,28 @@ fn redacted_user(rt: HostRuntime) -> Tested {
     redact(&mut user, &["password", "token"]);
     let dump = user.dump(alloc)?;
     assert_eq!(rt; dump.as_str(), r#"{"name":"a","keys":[{"token":"***"}]}"#);
+    Ok(())
+}
+
+#[test]
+fn pointed_port(rt: HostRuntime) -> Tested {
+    let alloc = rt.alloc();
+    let mut config = jzon::parse(alloc, r#"{"servers": [{"port": 80}]}"#)?;
+    let port = pointer::get(&config, "/servers/0/port");
+    assert!(rt; port.is_some());
+    pointer::update(&mut config, "/servers/0/port", |port| {
+        *port = JsonValue::from(81u16);
+    })?;
+    pointer::insert(alloc, &mut config, "/servers/-", JsonValue::Null)?;
+    let dump = config.dump(alloc)?;
+    assert_eq!(rt; dump.as_str(), r#"{"servers":[{"port":81},null]}"#);
+    let found = pointer::find(&config, "/servers/2").map(|_| ());
+    assert!(rt;
+        found
+            == Err(Missing {
+                token: 1,
+                reason: Reason::OutOfRange
+            })
+    );
     Ok(())
 }

@@ -11,4 +11,6 @@ mod examples;
 #[cfg(test)]
 mod merge;
 #[cfg(test)]
+mod pointer;
+#[cfg(test)]
 mod redact;

@@ -1,0 +1,136 @@
+-- The entry that a token names, by its position.
+use Rattle.std.proofs.Common.{◌≡◌, ℕ, zero, suc, ◌+◌, List, [], ◌∷◌, length, Bool, true, false, not, nat_lt, if◌then◌else◌, Option, None, Some, option_map, option_and_then, slice_get}
+use Rattle.std.proofs.Common.{refl, sym, ap, ◌∙◌, arith, cond, get_or, ◌<◌, true≢false, subst}
+use Rattle.std.proofs.lemmas.Bool.Decides.{nat_tests}
+use Rattle.std.proofs.lemmas.List.Quantifiers.{position-Some}
+use Rattle.std.proofs.lemmas.Slice.Eq.{bytes_eq-Decides}
+use Rattle.std.specs.Cmp.Lexicographic.{nat_list_eq_equiv}
+use Rattle.std.proofs.lemmas.Map.Keys.{IsDistinct-head, IsDistinct-tail}
+use Rattle.std.specs.List.{position, position_or_len, filter, AllByRecursion, IsDistinct}
+use Rattle.std.specs.Option.{option_map_or}
+use Rattle.std.specs.Str.{bytes_eq}
+use Rattle.jzon.specs.PairList.{keys_of, find, put, cut, set_value}
+use Rattle.jzon_tools.specs.Pointer.{unescaped, names}
+
+module _ {V : Type 0} where
+  -- the value at the position, if it is within the length
+  abbrev at_place : List (List ℕ × V) → Option ℕ → Option V
+  at_place ps i = option_map (λ p. p.1) (option_and_then (λ j. slice_get ps j) i)
+
+  later_by : (b : Bool) (n m : ℕ) (p : List ℕ × V) (ps : List (List ℕ × V)) → nat_lt n m ≡ b
+      → at_place (p ∷ ps) (cond (nat_lt (1 + n) (suc m)) (Some (1 + n)) None)
+      ≡ at_place ps (cond (nat_lt n m) (Some n) None)
+  later_by true n m p ps e =
+      let up : nat_lt (1 + n) (suc m) ≡ true = grind (arith, nat_tests) in
+      let one : 1 + n ≡ suc n = omega arith in
+      rw (up, e, one) refl
+  later_by false n m p ps e =
+      let up : nat_lt (1 + n) (suc m) ≡ false = grind (arith, nat_tests) in
+      rw (up, e) refl
+
+  later : (n m : ℕ) (p : List ℕ × V) (ps : List (List ℕ × V))
+      → at_place (p ∷ ps) (cond (nat_lt (1 + n) (suc m)) (Some (1 + n)) None)
+      ≡ at_place ps (cond (nat_lt n m) (Some n) None)
+  later n m p ps = later_by (nat_lt n m) n m p ps refl
+
+  first-of : (b : Bool) (n m : ℕ) (p : List ℕ × V) (ps : List (List ℕ × V)) (o : Option V)
+      → o ≡ at_place ps (cond (nat_lt n m) (Some n) None)
+      → (if b then Some p.1 else o)
+      ≡ at_place (p ∷ ps) (cond (nat_lt (cond (not b) (1 + n) 0) (suc m)) (Some (cond (not b) (1 + n) 0)) None)
+  first-of true n m p ps o h = let some : nat_lt 0 (suc m) ≡ true = grind (arith, nat_tests) in rw some refl
+  first-of false n m p ps o h = h ∙ sym (later n m p ps)
+
+  find-first : (u : List ℕ) (ps : List (List ℕ × V))
+      → find u ps ≡ at_place ps (position (λ k. bytes_eq k u) (keys_of ps))
+  find-first u [] = refl
+  find-first u (p ∷ ps) =
+      first-of (bytes_eq p.0 u) (position_or_len (λ k. bytes_eq k u) (keys_of ps)) (length (keys_of ps)) p ps
+      (find u ps) (find-first u ps)
+
+  none-first : (ps : List (List ℕ × V)) → None ≡ at_place ps (position (λ (k : List ℕ). false) (keys_of ps))
+  none-first [] = refl
+  none-first (p ∷ ps) =
+      none-first ps ∙ sym (later (position_or_len (λ (k : List ℕ). false) (keys_of ps)) (length (keys_of ps)) p ps)
+
+  first_by : (o : Option (List ℕ)) (ps : List (List ℕ × V)) → option_and_then (λ k. find k ps) o
+      ≡ at_place ps (position (λ k. option_map_or (bytes_eq k) o false) (keys_of ps))
+  first_by None ps = none-first ps
+  first_by (Some u) ps = find-first u ps
+
+  -- the value that a token names is at the first position whose key it names
+  pub named-entry : (t : List ℕ) (ps : List (List ℕ × V)) → option_and_then (λ k. find k ps) (unescaped t)
+      ≡ option_map (λ p. p.1) (option_and_then (λ j. slice_get ps j) (position (names t) (keys_of ps)))
+  named-entry t ps = first_by (unescaped t) ps
+
+  -- ---- what is written there
+
+  put-at : (k : List ℕ) (ps : List (List ℕ × V)) (i : ℕ) (w : V) → i < length (keys_of ps)
+      → bytes_eq (get_or (keys_of ps) i []) k ≡ true
+      → ((j : ℕ) → j < i → bytes_eq (get_or (keys_of ps) j []) k ≡ false) → put k w ps ≡ set_value ps i w
+  put-at k [] i w within here before = absurd (omega arith)
+  put-at k (p ∷ ps) zero w within here before = let same : bytes_eq p.0 k ≡ true = here in rw same refl
+  put-at k (p ∷ ps) (suc i) w within here before =
+      let other : bytes_eq p.0 k ≡ false = before 0 (omega arith) in
+      rw other (ap (λ qs. p ∷ qs) (put-at k ps i w (omega arith) here (λ j less. before (suc j) (omega arith))))
+
+  written-at_by : (o : Option (List ℕ)) (ps : List (List ℕ × V)) (i : ℕ) (w : V)
+      → position (λ k. option_map_or (bytes_eq k) o false) (keys_of ps) ≡ Some i
+      → option_map_or (λ k. put k w ps) o ps ≡ set_value ps i w
+  written-at_by None ps i w e =
+      absurd (true≢false (sym (position-Some (λ (k : List ℕ). false) (keys_of ps) i [] e).1))
+  written-at_by (Some u) ps i w e =
+      let at = position-Some (λ k. bytes_eq k u) (keys_of ps) i [] e in put-at u ps i w at.0 at.1 at.2
+
+  -- a value that is put under the key that a token names stands at its position
+  pub named-written : (t : List ℕ) (ps : List (List ℕ × V)) (i : ℕ) (w : V) → position (names t) (keys_of ps) ≡ Some i
+      → option_map_or (λ k. put k w ps) (unescaped t) ps ≡ set_value ps i w
+  named-written t ps i w e = written-at_by (unescaped t) ps i w e
+
+  -- ---- what is left without it
+
+  kept_all : (k : List ℕ) (ps : List (List ℕ × V)) → AllByRecursion (λ j. bytes_eq k j ≡ false) (keys_of ps)
+      → filter (λ p. not (bytes_eq p.0 k)) ps ≡ ps
+  kept_all k [] apart = refl
+  kept_all k (p ∷ ps) apart =
+      let other : bytes_eq p.0 k ≡ false = nat_list_eq_equiv.symm p.0 k ∙ apart.0 in
+      rw other (ap (λ qs. p ∷ qs) (kept_all k ps apart.1))
+
+  cut-at : (k : List ℕ) (ps : List (List ℕ × V)) (i : ℕ) (w : V) → i < length (keys_of ps)
+      → bytes_eq (get_or (keys_of ps) i []) k ≡ true
+      → ((j : ℕ) → j < i → bytes_eq (get_or (keys_of ps) j []) k ≡ false) → IsDistinct bytes_eq (keys_of ps)
+      → filter (λ p. not (bytes_eq p.0 k)) (set_value ps i w) ≡ cut k ps
+  cut-at k [] i w within here before distinct = absurd (omega arith)
+  cut-at k (p ∷ ps) zero w within here before distinct =
+      let same : bytes_eq p.0 k ≡ true = here in
+      let apart = IsDistinct-head bytes_eq p.0 (keys_of ps) distinct in
+      rw same (kept_all k ps (subst (λ (j : List ℕ). AllByRecursion (λ l. bytes_eq j l ≡ false) (keys_of ps))
+      ((bytes_eq-Decides p.0 k).0 same) apart))
+  cut-at k (p ∷ ps) (suc i) w within here before distinct =
+      let other : bytes_eq p.0 k ≡ false = before 0 (omega arith) in
+      rw other (ap (λ qs. p ∷ qs) (cut-at k ps i w (omega arith) here (λ j less. before (suc j) (omega arith))
+      (IsDistinct-tail bytes_eq p.0 (keys_of ps) distinct)))
+
+  cut-at_by : (o : Option (List ℕ)) (ps : List (List ℕ × V)) (i : ℕ) (w : V)
+      → position (λ k. option_map_or (bytes_eq k) o false) (keys_of ps) ≡ Some i → IsDistinct bytes_eq (keys_of ps)
+      → option_map_or (λ k. cut k ps) o ps ≡ filter (λ p. not (option_map_or (bytes_eq p.0) o false)) (set_value ps i w)
+  cut-at_by None ps i w e distinct =
+      absurd (true≢false (sym (position-Some (λ (k : List ℕ). false) (keys_of ps) i [] e).1))
+  cut-at_by (Some u) ps i w e distinct =
+      let at = position-Some (λ k. bytes_eq k u) (keys_of ps) i [] e in
+      sym (cut-at u ps i w at.0 at.1 at.2 distinct)
+
+  -- without the entries that a token names, there are those without its key
+  pub named-cut : (t : List ℕ) (ps : List (List ℕ × V)) (i : ℕ) (w : V) → position (names t) (keys_of ps) ≡ Some i
+      → IsDistinct bytes_eq (keys_of ps)
+      → option_map_or (λ k. cut k ps) (unescaped t) ps ≡ filter (λ p. not (names t p.0)) (set_value ps i w)
+  named-cut t ps i w e distinct = cut-at_by (unescaped t) ps i w e distinct
+
+  cut-missing_by : (b : Bool) (k : List ℕ) (p : List ℕ × V) (ps : List (List ℕ × V))
+      → (find k ps ≡ None → cut k ps ≡ ps) → (if b then Some p.1 else find k ps) ≡ None
+      → (if b then ps else p ∷ cut k ps) ≡ p ∷ ps
+  cut-missing_by true k p ps ih h = absurd (cc)
+  cut-missing_by false k p ps ih h = ap (λ qs. p ∷ qs) (ih h)
+
+  pub cut-missing : (k : List ℕ) (ps : List (List ℕ × V)) → find k ps ≡ None → cut k ps ≡ ps
+  cut-missing k [] h = refl
+  cut-missing k (p ∷ ps) h = cut-missing_by (bytes_eq p.0 k) k p ps (cut-missing k ps) h

@@ -1,0 +1,155 @@
+//! The reference tokens of a pointer's text (RFC 6901, sections 3 and 4), without allocation.
+//!
+//! A token is kept as it is written. Where it has no `~`, it is the key itself, and the object's index
+//! finds it. A token with an escape is compared with each key in turn.
+
+ghost use Rattle.std.specs.Prelude.{◌≡◌, ◌&&◌, ◌==◌, ◌<◌, ◌≤◌, ◌∷◌, nat_lt, length, drop, slice_index, option_map, option_and_then, IfOk, IfSome, string_bytes, None, Some};
+ghost use Rattle.std.specs.Char.{is_ascii_digit};
+ghost use Rattle.std.specs.List.{list_all, position};
+ghost use Rattle.std.specs.Option.{is_some, option_copied};
+ghost use Rattle.jzon.specs.Entries.{entries_of};
+ghost use Rattle.jzon.specs.PairList.{find, keys_of};
+ghost use Rattle.jzon_tools.specs.Pointer.{is_index, index_named, names, tokens_in, tokens_left, unescaped};
+
+use jzon::JsonValue;
+use jzon::object::Object;
+use std::alloc::{AllocError, Global};
+
+/// The first token of a text, and the text of the others, if there are any.
+pub fn first_token(text: &str) -> (&str, Option<&str>)
+    ensures tokens { tokens_in text.now ≡ result.0.now ∷ tokens_left (option_copied result.1) }
+    ensures rest { IfSome result.1 (λ rest. length rest.now < length text.now) }
+{
+    match text.split_once('/') {
+        Some((token, rest)) => (token, Some(rest)),
+        None => (text, None),
+    }
+}
+
+/// The index that a token names: digits, with no zero before others.
+#[tactic(auto, using(crate::proofs::PointerSteps::index_read))]
+pub fn index_of(token: &str) -> Option<usize>
+    ensures { result ≡ index_named token.now }
+{
+    if !has_index_form(token) {
+        return None;
+    }
+    token.parse().ok()
+}
+
+pub fn has_index_form(token: &str) -> bool
+    ensures { result ≡ is_index token.now }
+{
+    let bytes = token.as_bytes();
+    !bytes.is_empty() && all_digits(bytes) && !has_leading_zero(bytes)
+}
+
+fn all_digits(token: &[u8]) -> bool
+    ensures { result ≡ list_all is_ascii_digit token.now }
+{
+    token.iter().all(|byte| byte.is_ascii_digit())
+}
+
+fn has_leading_zero(token: &[u8]) -> bool
+    ensures { result ≡ (nat_lt 1 (length token.now) && (slice_index token.now 0 == 48)) }
+{
+    token.len() > 1 && token[0] == b'0'
+}
+
+/// The value of the entry that a token names.
+pub fn member<'a>(object: &'a Object, token: &str) -> Option<&'a JsonValue>
+    ensures { option_copied result
+        ≡ option_and_then (λ k. find k (entries_of object.now)) (unescaped token.now) }
+{
+    if !token.contains('~') {
+        return object.get(token);
+    }
+    let (_key, value) = object.get_index(position_of(object, token)?)?;
+    Some(value)
+}
+
+/// The position of the entry that a token names.
+pub fn position_of(object: &Object, token: &str) -> Option<usize>
+    ensures { result ≡ position (names token.now) (keys_of (entries_of object.now)) }
+{
+    object.keys().position(|key| is_name(token, key))
+}
+
+/// Whether a token names this key.
+pub fn is_name(token: &str, key: &str) -> bool
+    ensures { result ≡ names token.now key.now }
+{
+    let token = token.as_bytes();
+    let key = key.as_bytes();
+    let mut at = 0;
+    let mut matched = 0;
+    while at < token.len() {
+        let Some((byte, next)) = unescaped_at(token, at) else {
+            return false;
+        };
+        if matched >= key.len() || key[matched] != byte {
+            return false;
+        }
+        at = next;
+        matched += 1;
+    }
+    matched == key.len()
+}
+
+/// Whether each `~` of a token is followed by `0` or `1`.
+pub fn is_well_escaped(token: &str) -> bool
+    ensures { result ≡ is_some (unescaped token.now) }
+{
+    let token = token.as_bytes();
+    let mut at = 0;
+    while at < token.len() {
+        let Some((_byte, next)) = unescaped_at(token, at) else {
+            return false;
+        };
+        at = next;
+    }
+    true
+}
+
+/// The byte that stands at a position of a token, by itself or by an escape, and the next position.
+fn unescaped_at(token: &[u8], at: usize) -> Option<(u8, usize)>
+    requires { at < length token.now }
+    ensures bad { result ≡ None → unescaped (drop at token.now) ≡ None }
+    ensures good { IfSome result (λ r. unescaped (drop at token.now)
+        ≡ option_map (λ bs. r.0 ∷ bs) (unescaped (drop r.1 token.now))) }
+    ensures next { IfSome result (λ r. (at < r.1) × (r.1 ≤ length token.now)) }
+{
+    if token[at] != b'~' {
+        return Some((token[at], at + 1));
+    }
+    if at + 1 == token.len() {
+        return None;
+    }
+    match token[at + 1] {
+        b'0' => Some((b'~', at + 2)),
+        b'1' => Some((b'/', at + 2)),
+        _ => None,
+    }
+}
+
+/// The key that a token names, or `None` for a bad escape.
+pub fn key_of(alloc: Global, token: &str) -> Result<Option<String>, AllocError>
+    ensures { IfOk result (λ key. option_map string_bytes key ≡ unescaped token.now) }
+{
+    let mut key = String::new(alloc);
+    let mut rest = token;
+    'escapes: while let Some((plain, after)) = rest.split_once('~') {
+        key.push_str(plain)?;
+        if let Some(more) = after.strip_prefix('0') {
+            key.push('~')?;
+            rest = more;
+        } else if let Some(more) = after.strip_prefix('1') {
+            key.push('/')?;
+            rest = more;
+        } else {
+            return Ok(None);
+        }
+    }
+    key.push_str(rest)?;
+    Ok(Some(key))
+}
