@@ -1,2 +1,1 @@
 pub mod FilterSteps
-pub mod PointerSteps

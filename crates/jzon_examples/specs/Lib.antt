@@ -1,4 +1,3 @@
 pub mod Config
 pub mod Filter
-pub mod Pointer
 pub mod Server

@@ -7,7 +7,6 @@ pub mod cookbook;
 pub mod faults;
 pub mod from_rust;
 pub mod line_filter;
-pub mod pointer;
 pub mod round_trip;
 pub mod server_record;
 pub mod sorted_layout;

@@ -21,8 +21,6 @@ mod line_filter;
 #[cfg(test)]
 mod looking;
 #[cfg(test)]
-mod pointer;
-#[cfg(test)]
 mod printing;
 #[cfg(test)]
 mod proved;
