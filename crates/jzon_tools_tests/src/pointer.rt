@@ -497,7 +497,6 @@ const ALLOCATING: &[(&str, &str, usize)] = &[
     (r#"{"a":[]}"#, "/a/0", 1),
     ("{}", "/a~0", 4),
     (r#"{"a~":1}"#, "/a~0", 1),
-    (r#"{"a":1}"#, "/a", 0),
 ];
 
 /// One run. Whether an allocation failed: then the value is as it was.
