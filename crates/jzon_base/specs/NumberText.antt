@@ -1,6 +1,6 @@
 -- The text of a number, as docs/RULES.md, "Printed numbers", has it. That is normative, whatever another printer does.
-use Rattle.std.specs.Prelude.{ℕ, ℤ, pos, negsuc, ◌+◌, ◌-◌, Bool, nat_le, nat_lt, ◌==◌, if◌then◌else◌, List, [], ◌++◌}
-use Rattle.std.specs.Prelude.{length, take, drop, replicate, codes, decimal}
+use Rattle.std.specs.Prelude.{ℕ, ℤ, pos, negsuc, ◌+◌, ◌-◌, ◌<◌, ◌≤◌, ◌≤ℤ◌, unsigned_abs, Bool, nat_le, nat_lt, ◌==◌}
+use Rattle.std.specs.Prelude.{if◌then◌else◌, List, [], ◌++◌, length, take, drop, replicate, codes, decimal}
 use Rattle.jzon_base.specs.Decimal.{Decimal, nan, parts}
 
 -- `-` for a negative sign
@@ -40,6 +40,13 @@ magnitude_text ds (negsuc k) =
 -- the text of a sign, a mantissa and a decimal exponent: for the mantissa 0 it is `0`, whatever the exponent
 abbrev pub number_text : Bool → ℕ → ℤ → List ℕ
 number_text positive m e = sign_text positive ++ (if m == 0 then codes "0" else magnitude_text (decimal m) e)
+
+-- m * 10 ^ e isn't 0, it has at most 16 decimal places, and a digit is before its point
+pub record IsCommon (m : ℕ) (e : ℤ) : Type 0 where
+  pub some : 0 < m
+  pub no_zeros : e ≤ℤ pos 0
+  pub places : unsigned_abs e ≤ 16
+  pub before_point : unsigned_abs e < length (decimal m)
 
 -- what `Display` shows: `nan`, or the text of the parts
 abbrev pub decimal_text : Decimal → List ℕ

@@ -2,7 +2,7 @@
 
 use crate::common::{Parts, expect, expect_display, expect_eq, number};
 use jzon_base::number::NAN;
-use jzon_base::util::print_dec::{push_digits, write};
+use jzon_base::util::print_dec::{DIGITS_ROOM, is_common, put_digits, write};
 use std::alloc::Global;
 use std::process::Abort;
 use std::test::Fail;
@@ -63,8 +63,7 @@ const OTHER: &[(bool, u64, i16, &str)] = &[
     (true, 1234567890123456789, -18, "1.234567890123456789"),
 ];
 
-/// All calls print the text. `push_digits` adds only a plain one, where there is room for 48 bytes;
-/// otherwise it adds nothing.
+/// All calls print the text. `put_digits` puts only a plain one, of a common number.
 fn expect_printed(
     rt: &impl Abort,
     alloc: Global,
@@ -77,12 +76,14 @@ fn expect_printed(
     let mut written = Vec::new(alloc);
     write(&mut written, positive, mantissa, exponent)?;
     expect(rt, text, written.as_slice() == text.as_bytes());
-    for room in [47, 48, 100] {
-        let mut bytes = Vec::with_capacity(alloc, room)?;
-        let is_added = push_digits(&mut bytes, positive, mantissa, exponent);
-        expect_eq(rt, text, is_added, is_plain && room >= 48);
-        let added = if is_added { text } else { "" };
-        expect(rt, text, bytes.as_slice() == added.as_bytes());
+    let is_common = is_common(mantissa, exponent);
+    expect_eq(rt, text, is_common, is_plain);
+    if is_common {
+        let mut room = [b'-'; DIGITS_ROOM + 3];
+        room[..3].copy_from_slice(b"abc");
+        let end = put_digits(&mut room, 3, positive, mantissa, exponent);
+        expect(rt, text, &room[..3] == b"abc".as_slice());
+        expect(rt, text, &room[3..end] == text.as_bytes());
     }
     Ok(())
 }

@@ -1,11 +1,11 @@
--- The bytes of a number, put after what a vector has.
+-- The bytes of a number, put after others.
 use Rattle.jzon_base.proofs.Common.{◌≡◌, ℕ, ◌+◌, ◌-◌, ◌≤◌, ◌<◌, List, [], ◌∷◌, ◌++◌, length, take, drop, set}
-use Rattle.jzon_base.proofs.Common.{get_or, arith, ap, sym, ◌∙◌, length-append, replicate, drop-drop, take_more, length-set}
-use Rattle.jzon_base.proofs.Common.{drop_all, length-take-le, take-replicate, length-replicate, take_all}
+use Rattle.jzon_base.proofs.Common.{get_or, arith, ap, sym, ◌∙◌, length-append, drop-drop, take_more, length-set}
+use Rattle.jzon_base.proofs.Common.{length-take-le}
 use Rattle.jzon_base.proofs.Common.{drop-append_seam, set-append_seam, take-append-add}
 use Rattle.jzon_base.proofs.Common.{take-append_seam}
 use Rattle.std.proofs.Common.{length-drop}
-use Rattle.std.proofs.lemmas.List.{append-nil, append_assoc}
+use Rattle.std.proofs.lemmas.List.{append_assoc}
 use Rattle.std.proofs.lemmas.List.{take-append-drop}
 use Rattle.std.proofs.Math.Seq.{append_snoc}
 use Rattle.std.proofs.lemmas.Simd.{length-chunk, length-put_chunk, put_chunk_is}
@@ -79,42 +79,3 @@ point_between old room sign ds end places few fit at text =
     ∙ take-append_seam (front ++ (46 ∷ mid)) (more ++ tail) ∙ append_assoc old (sign ++ take k ds) (46 ∷ mid)
     ∙ ap (λ (l : List ℕ). old ++ l) (append_assoc sign (take k ds) (46 ∷ mid)
     ∙ ap (λ (l : List ℕ). sign ++ l) (sym (append_snoc (take k ds) 46 mid)))
-
--- Digits overwrite a part of what was added: what was added before them stays, as a sign.
-module _ (old items new ds : List ℕ) (m x sign start end : ℕ) (filled : items ≡ old ++ replicate m x)
-    (at : start ≡ length old + sign) (long : start + length ds ≡ end) (room : sign + length ds ≤ m)
-    (before : take start new ≡ take start items) (written : drop start new ≡ ds ++ drop end items) where
-  many : length items ≡ length old + m
-  many = ap length filled ∙ length-append old (replicate m x) ∙ ap (λ k. length old + k) (length-replicate m x)
-
-  front : length (take start new) ≡ start
-  front = ap length before ∙ length-take-le start items (omega (arith, many))
-
-  pub length-put_over : length new ≡ length items
-  length-put_over =
-      ap length (sym (take-append-drop start new)) ∙ length-append (take start new) (drop start new)
-      ∙ ap (λ l. length (take start new) + length l) written
-      ∙ omega (arith, front, length-append ds (drop end items), length-drop end items, many)
-
-  pub put_over : take end new ≡ old ++ (replicate sign x ++ ds)
-  put_over =
-      let kept : take start items ≡ old ++ replicate sign x =
-      ap (take start) filled ∙ ap (λ k. take k (old ++ replicate m x)) at ∙ take-append-add old (replicate m x) sign
-      ∙ ap (λ (l : List ℕ). old ++ l) (take-replicate sign m x (omega arith)) in
-      ap (λ k. take k new) (sym long ∙ ap (λ k. k + length ds) (sym front))
-      ∙ ap (take (length (take start new) + length ds)) (sym (take-append-drop start new))
-      ∙ take-append-add (take start new) (drop start new) (length ds)
-      ∙ ap (λ l. take start new ++ take (length ds) l) written
-      ∙ ap (λ (l : List ℕ). take start new ++ l) (take-append_seam ds (drop end items))
-      ∙ ap (λ (l : List ℕ). l ++ ds) (before ∙ kept) ∙ append_assoc old (replicate sign x) ds
-
--- all bytes are written back
-pub put_back : (p v : List ℕ) (m : ℕ) → length p ≡ length v → m ≡ length v → take m (p ++ drop (length p) v) ≡ p
-put_back p v m same long =
-    ap (λ (l : List ℕ). take m (p ++ l)) (drop_all (length p) v (omega arith))
-    ∙ ap (take m) (append-nil p) ∙ take_all m p (omega arith)
-
--- all bytes are written back, and then truncated
-pub cut_back : (p v : List ℕ) (m k : ℕ) → length p ≡ length v → m ≡ length v
-    → take k (take m (p ++ drop (length p) v)) ≡ take k p
-cut_back p v m k same long = ap (take k) (put_back p v m same long)

@@ -1,10 +1,10 @@
-//! The text of a number (docs/RULES.md, "Printed numbers"; RFC 8259, section 6). `push_digits` adds
+//! The text of a number (docs/RULES.md, "Printed numbers"; RFC 8259, section 6). `put_digits` puts
 //! that of a common number in a few stores; `number_text` makes that of any other, part by part.
 
-ghost use Rattle.std.specs.Prelude.{◌≡◌, ◌+◌, ◌-◌, ◌≤◌, ◌<◌, ◌++◌, ◌∷◌, length, take, drop, replicate, decimal, IsAscii, IsTrue, false, OnOk, OnErr, vec_len, vec_capacity};
+ghost use Rattle.std.specs.Prelude.{◌≡◌, ◌+◌, ◌≤◌, ◌<◌, ◌↔◌, ◌++◌, ◌∷◌, length, take, drop, replicate, slice_index, IsAscii, IsTrue, OnOk, OnErr};
 ghost use Rattle.std.specs.Io.KnownBytes.{Appends};
 ghost use Rattle.arrayvec.specs.ArrayString.{array_string_len};
-ghost use Rattle.jzon_base.specs.NumberText.{sign_text, point_after, point_after_first, fraction_text, small_exponent_text, magnitude_text, number_text};
+ghost use Rattle.jzon_base.specs.NumberText.{IsCommon, point_after, point_after_first, fraction_text, small_exponent_text, magnitude_text, number_text};
 ghost use Rattle.jzon_base.specs.Written.{AppendsBeginning};
 
 use crate::util::write_bytes;
@@ -17,10 +17,10 @@ use std::simd::Simd;
 /// such as `e-32749`.
 pub const MAX_LEN: usize = 29;
 
-/// The most digits that `push_digits` adds after a point: they are moved at once.
+/// The most digits that `put_digits` puts after a point: they are moved at once.
 const PLACES: usize = 16;
 
-/// The room that `push_digits` needs, which three stores of 16 bytes fill: for a sign, up to 19
+/// The room that `put_digits` needs, which three stores of 16 bytes fill: for a sign, up to 19
 /// digits before the point, and the 17 bytes to which a point and the digits after it are moved.
 #[doc(hidden)]
 pub const DIGITS_ROOM: usize = 48;
@@ -41,52 +41,21 @@ pub fn write<W: Write>(wr: &mut W, positive: bool, n: u64, exponent: i16) -> io:
     write_bytes(wr, text.as_str().as_bytes())
 }
 
-/// Adds the text of a common number, in a few stores, and returns whether it did. The caller writes
-/// any other number by `number_text`. A common number isn't 0; its exponent is 0 to -`PLACES`, and
-/// its text doesn't begin with `0.` or `-0.`. Nothing is added either if fewer than `DIGITS_ROOM`
-/// bytes are free.
+/// Whether the number is common: not 0, its exponent is 0 to -`PLACES`, and a digit is before its
+/// point.
 #[doc(hidden)]
 #[inline(always)]
-pub fn push_digits(bytes: &mut Vec<u8>, positive: bool, mantissa: u64, exponent: i16) -> bool
-    ensures done { IsTrue result → bytes.new.items
-        ≡ bytes.old.items ++ number_text positive mantissa exponent }
-    ensures some { IsTrue result → 0 < mantissa }
-    ensures left { result ≡ false → bytes.new.items ≡ bytes.old.items }
+pub fn is_common(mantissa: u64, exponent: i16) -> bool
+    ensures { IsTrue result ↔ IsCommon mantissa exponent }
 {
-    let is_common = mantissa != 0 && exponent <= 0 && -16 <= exponent;
-    if !is_common || bytes.capacity() - bytes.len() < DIGITS_ROOM {
+    if mantissa == 0 || exponent > 0 || exponent < -16 {
         return false;
     }
-    if exponent == 0 {
-        let end = put_after_minuses(bytes, usize::from(!positive), mantissa);
-        bytes.truncate(end);
-        return true;
-    }
-    push_decimal(bytes, positive, mantissa, exponent.unsigned_abs() as usize)
+    mantissa.ilog10() as usize + 1 > exponent.unsigned_abs() as usize
 }
 
-/// Adds the sign and the digits of a number, with a point before the last `places`, if a digit
-/// precedes it, and returns whether it did. Otherwise nothing is added.
-#[inline(always)]
-fn push_decimal(bytes: &mut Vec<u8>, positive: bool, n: u64, places: usize) -> bool
-    requires some { 0 < n }
-    requires places { places ≤ 16 }
-    requires reserved { vec_len bytes.old + DIGITS_ROOM ≤ vec_capacity bytes.old }
-    ensures done { IsTrue result → bytes.new.items
-        ≡ bytes.old.items ++ (sign_text positive ++ fraction_text (decimal n) places) }
-    ensures left { result ≡ false → bytes.new.items ≡ bytes.old.items }
-{
-    if n.ilog10() as usize + 1 <= places {
-        return false;
-    }
-    let end = put_after_minuses(bytes, usize::from(!positive), n);
-    put_point(bytes.as_mut_slice(), end - places);
-    bytes.truncate(end + 1);
-    true
-}
-
-/// Puts the text of a common number (`push_digits`) at the offset, and returns its end; for any
-/// other number the offset. The bytes before it stay.
+/// Puts the text of a common number at the offset, where a minus is, in a few stores, and returns
+/// its end. The bytes before it stay. The caller writes any other number by `number_text`.
 #[doc(hidden)]
 #[inline(always)]
 pub fn put_digits(
@@ -96,65 +65,21 @@ pub fn put_digits(
     mantissa: u64,
     exponent: i16,
 ) -> usize
-    requires { start + 48 ≤ length room.old }
-    ensures text { start < result → take result room.new
+    requires common { IsCommon mantissa exponent }
+    requires room { start + 48 ≤ length room.old }
+    requires minus { slice_index room.old start ≡ 45 }
+    ensures text { take result room.new
         ≡ take start room.old ++ number_text positive mantissa exponent }
-    ensures some { start < result → 0 < mantissa }
-    ensures left { result ≡ start → room.new ≡ room.old }
     ensures within { (start ≤ result) × (result ≤ start + 48) }
     ensures len { length room.new ≡ length room.old }
 {
-    let is_common = mantissa != 0 && exponent <= 0 && -16 <= exponent;
-    if !is_common {
-        return start;
-    }
+    let end = start + (usize::from(!positive) + (mantissa.ilog10() as usize + 1));
+    write_digits(mantissa, room, end);
     if exponent == 0 {
-        return put_signed(room, start, positive, mantissa);
+        return end;
     }
-    put_decimal(
-        room,
-        start,
-        positive,
-        mantissa,
-        exponent.unsigned_abs() as usize,
-    )
-}
-
-/// As `push_decimal`, at an offset: returns the end, or the offset if nothing is put.
-#[inline(always)]
-fn put_decimal(room: &mut [u8], start: usize, positive: bool, n: u64, places: usize) -> usize
-    requires some { 0 < n }
-    requires places { places ≤ 16 }
-    requires room { start + 48 ≤ length room.old }
-    ensures text { start < result → take result room.new
-        ≡ take start room.old ++ (sign_text positive ++ fraction_text (decimal n) places) }
-    ensures left { result ≡ start → room.new ≡ room.old }
-    ensures within { (start ≤ result) × (result ≤ start + 48) }
-    ensures len { length room.new ≡ length room.old }
-{
-    if n.ilog10() as usize + 1 <= places {
-        return start;
-    }
-    let end = put_signed(room, start, positive, n);
-    put_point(room, end - places);
+    put_point(room, end - exponent.unsigned_abs() as usize);
     end + 1
-}
-
-/// Puts the sign and the digits of a number, and returns the end.
-#[inline(always)]
-fn put_signed(room: &mut [u8], start: usize, positive: bool, n: u64) -> usize
-    requires some { 0 < n }
-    requires room { start + 48 ≤ length room.old }
-    ensures end { result ≡ start + (length (sign_text positive) + length (decimal n)) }
-    ensures few { length (decimal n) ≤ 20 }
-    ensures any { 0 < length (decimal n) }
-    ensures text { take result room.new ≡ take start room.old ++ (sign_text positive ++ decimal n) }
-    ensures len { length room.new ≡ length room.old }
-{
-    let end = start + (usize::from(!positive) + (n.ilog10() as usize + 1));
-    room[start] = b'-';
-    write_digits(n, room, end);
-    end
 }
 
 /// Puts a point at the offset; the bytes from there on are moved by one, 16 of them.
@@ -168,30 +93,6 @@ fn put_point(room: &mut [u8], point: usize)
     let places = Simd::<u8, PLACES>::from_slice(&room[point..]);
     places.copy_to_slice(&mut room[point + 1..]);
     room[point] = b'.';
-}
-
-/// Adds `DIGITS_ROOM` bytes, of which the first are `minuses` minuses and the digits of `n`, and
-/// returns the offset after these digits. The bytes after that are room for `put_point`; the caller
-/// cuts them off.
-#[inline(always)]
-fn put_after_minuses(bytes: &mut Vec<u8>, minuses: usize, n: u64) -> usize
-    requires some { 0 < n }
-    requires minuses { minuses ≤ 1 }
-    requires reserved { vec_len bytes.old + DIGITS_ROOM ≤ vec_capacity bytes.old }
-    ensures len { vec_len bytes.new ≡ vec_len bytes.old + DIGITS_ROOM }
-    ensures end { result ≡ vec_len bytes.old + (minuses + length (decimal n)) }
-    ensures text { take result bytes.new.items
-        ≡ bytes.old.items ++ (replicate minuses 45 ++ decimal n) }
-{
-    let start = bytes.len();
-    let end = start + minuses + n.ilog10() as usize + 1;
-    // Minuses fill the room, and `write_digits` puts the digits before `end`. The room is reserved,
-    // so `resize` takes no memory.
-    let Ok(()) = bytes.resize(start + DIGITS_ROOM, b'-') else {
-        unreachable!()
-    };
-    write_digits(n, bytes.as_mut_slice(), end);
-    end
 }
 
 /// The text of the number `mantissa * 10 ^ exponent` with its sign.

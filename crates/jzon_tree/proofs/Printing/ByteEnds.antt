@@ -1,10 +1,9 @@
 -- Bytes that are put by their first and last ones, which may overlap.
-use Rattle.jzon_base.proofs.Common.{◌≡◌, ℕ, ◌+◌, ◌-◌, ◌≤◌, List, [], ◌∷◌, ◌++◌, length, take, drop, get_or, sym, ap}
+use Rattle.jzon_base.proofs.Common.{◌≡◌, ℕ, ◌+◌, ◌-◌, ◌≤◌, ◌<◌, List, [], ◌∷◌, ◌++◌, length, take, drop, get_or, sym, ap}
 use Rattle.jzon_base.proofs.Common.{◌∙◌, append_assoc, take-append-drop, replicate, arith, length-drop}
-use Rattle.jzon_base.proofs.Common.{length-replicate, length-take-le, take-take, take_all, take_more, take-replicate}
-use Rattle.jzon_base.proofs.Common.{get_or-append-add, take-append-add}
-use Rattle.std.proofs.lemmas.List.{length-append}
-use Rattle.std.proofs.lemmas.List.{get_or-replicate}
+use Rattle.jzon_base.proofs.Common.{length-take-le, take-take, take_all, take_more}
+use Rattle.jzon_base.proofs.Common.{take-append-add}
+use Rattle.std.proofs.lemmas.List.{get_or-replicate, get_or-drop, get_or-take}
 use Rattle.std.proofs.lemmas.Simd.{take_more_put_chunk, length-put_chunk, get_or-put_chunk_above}
 use Rattle.std.proofs.lemmas.List.{take_more_set, set-append_left, length-set}
 use Rattle.std.specs.Prelude.{set}
@@ -55,25 +54,22 @@ module _ (old text : List ℕ) (at n : ℕ) (fits : at + length text ≤ length 
       ∙ rw (cut, last, append_assoc (take at old) (take k text) (drop k text), take-append-drop k text)
 
 -- a text is put between the first two of many quotes, so that the second is after it
-pub put_in_quotes : (old text items new : List ℕ) (s m : ℕ) → s ≡ length old
-    → items ≡ old ++ replicate m 34 → length text + 2 ≤ m
-    → take (s + 1 + length text) new ≡ take (s + 1) items ++ text
-    → get_or new (s + 1 + length text) 0 ≡ get_or items (s + 1 + length text) 0 → length new ≡ length items
-    → take (s + (length text + 2)) new ≡ old ++ 34 ∷ (text ++ 34 ∷ [])
-put_in_quotes old text items new s m at quotes room put left same =
+pub put_in_quotes : (old new text : List ℕ) (s m : ℕ) → s + m ≤ length old → take m (drop s old) ≡ replicate m 34
+    → length text + 2 ≤ m → take (s + 1 + length text) new ≡ take (s + 1) old ++ text
+    → get_or new (s + 1 + length text) 0 ≡ get_or old (s + 1 + length text) 0 → length new ≡ length old
+    → take (s + (length text + 2)) new ≡ take s old ++ 34 ∷ (text ++ 34 ∷ [])
+put_in_quotes old new text s m fits quotes few put left same =
     let k : ℕ = s + 1 + length text in
-    let many : length items ≡ length old + m =
-    rw (quotes, length-append old (replicate m 34), length-replicate {A = ℕ} m 34) in
     let end : s + (length text + 2) ≡ k + 1 = omega arith in
-    let second : k ≡ length old + (1 + length text) = omega arith in
-    let next : s + 1 ≡ length old + 1 = omega arith in
-    let quote : get_or items k 0 ≡ 34 =
-    rw (quotes, second, get_or-append-add old (replicate m 34) (1 + length text) 0)
-    (get_or-replicate m (1 + length text) 34 0 (omega arith)) in
-    let opening : take (s + 1) items ≡ old ++ 34 ∷ [] =
-    rw (next, quotes, take-append-add old (replicate m 34) 1, take-replicate {X = ℕ} 1 m 34 (omega arith)) in
-    rw (end, take_more new k 0 (omega (arith, many, same)), put, opening, left, quote)
-    (rw (append_assoc (old ++ 34 ∷ []) text (34 ∷ []), append_assoc old (34 ∷ []) (text ++ 34 ∷ [])))
+    let quote : (j i : ℕ) → i ≡ s + j → j < m → get_or old i 0 ≡ 34 =
+    λ j i e h. ap (λ n. get_or old n 0) e ∙ sym (get_or-drop s old j 0) ∙ sym (get_or-take m (drop s old) j 0 h)
+    ∙ ap (λ (l : List ℕ). get_or l j 0) quotes ∙ get_or-replicate m j 34 0 h in
+    let first : get_or old s 0 ≡ 34 = quote 0 s (omega arith) (omega arith) in
+    let second : get_or old k 0 ≡ 34 = quote (1 + length text) k (omega arith) (omega arith) in
+    let opening : take (s + 1) old ≡ take s old ++ 34 ∷ [] =
+    take_more old s 0 (omega arith) ∙ ap (λ b. take s old ++ b ∷ []) first in
+    rw (end, take_more new k 0 (omega (arith, same)), put, opening, left, second)
+    (rw (append_assoc (take s old ++ 34 ∷ []) text (34 ∷ []), append_assoc (take s old) (34 ∷ []) (text ++ 34 ∷ [])) refl)
 
 -- a text is put after the place of a quote, and then a quote on each side of it
 pub quotes_put : (old new text : List ℕ) (s : ℕ) → s + (length text + 2) ≤ length old → length new ≡ length old

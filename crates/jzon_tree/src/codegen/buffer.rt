@@ -1,6 +1,8 @@
 //! A buffer of fixed size.
 
-ghost use Rattle.std.specs.Prelude.{◌≡◌, ◌+◌, ◌≤◌, ◌++◌, [], length};
+ghost use Rattle.std.specs.Prelude.{◌≡◌, ◌+◌, ◌≤◌, ◌++◌, [], false, length, IsTrue};
+
+use crate::codegen::pieces::Piece;
 
 /// How many bytes a buffer holds at most. More are dearer to clear at the start of each call, and
 /// fewer make the writer be called more often.
@@ -54,5 +56,27 @@ impl Buffer {
         let end = self.len + bytes.len();
         self.bytes[self.len..end].copy_from_slice(bytes);
         self.len = end;
+    }
+
+    /// Adds the piece if it is short, there is room for it and it needs no escape.
+    #[inline(always)]
+    pub(super) fn put<P: Piece>(&mut self, piece: P) -> bool
+        ensures done { IsTrue result → buffer_items self.new
+            ≡ buffer_items self.old ++ P.text piece }
+        ensures left { result ≡ false → buffer_items self.new ≡ buffer_items self.old }
+        ensures len { self.old.len ≤ self.new.len }
+    {
+        let Some(seed) = piece.seed() else {
+            return false;
+        };
+        // The length of each seed is known when this is compiled, so one comparison is left.
+        if seed.len() > BUFFER_LEN || self.len > BUFFER_LEN - seed.len() {
+            return false;
+        }
+        let Some(end) = piece.put(&mut self.bytes, self.len, false) else {
+            return false;
+        };
+        self.len = end;
+        true
     }
 }

@@ -74,7 +74,30 @@ impl Destination for Memory {
 
     #[inline(always)]
     fn put<P: Piece>(&mut self, piece: P) -> bool {
-        piece.push(&mut self.bytes)
+        if let Some(byte) = piece.as_byte() {
+            if self.bytes.len() == self.bytes.capacity() {
+                return false;
+            }
+            self.bytes.push_reserved(byte);
+            return true;
+        }
+        let Some(seed) = piece.seed() else {
+            return false;
+        };
+        let start = self.bytes.len();
+        if self.bytes.capacity() - start < seed.len() {
+            return false;
+        }
+        // A vector lends no bytes beyond its length. What the piece doesn't need is cut off.
+        let Ok(()) = self.bytes.extend_from_slice(seed) else {
+            unreachable!()
+        };
+        let Some(end) = piece.put(self.bytes.as_mut_slice(), start, true) else {
+            self.bytes.truncate(start);
+            return false;
+        };
+        self.bytes.truncate(end);
+        true
     }
 
     ghost out_law = { λ _ _. refl };
@@ -104,7 +127,7 @@ impl<'a, W: Write> Destination for &'a mut W {
 /// A borrowed outlet.
 #[derive(Drop)]
 pub struct Through<'a, W> {
-    pub(super) outlet: &'a mut W,
+    pub(crate) outlet: &'a mut W,
 }
 
 impl<'a, W: Outlet> Destination for Through<'a, W> {

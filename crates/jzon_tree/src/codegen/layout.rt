@@ -17,11 +17,11 @@ use std::io::Write;
 /// Spaces after the first 63 of a line; one write has at most 512 of them.
 const SPACES: [u8; 512] = [b' '; 512];
 
-/// How many bytes of a line's start are copied at once into memory.
-const LINE_ROOM: usize = 8;
+/// How many bytes of a line's start are copied at once.
+pub(super) const LINE_ROOM: usize = 8;
 
 /// The newline, and the 63 spaces that are written with it.
-const NEWLINE_AND_SPACES: [u8; 64] =
+pub(super) const NEWLINE_AND_SPACES: [u8; 64] =
     *b"\n                                                               ";
 
 /// The layout of a text: how many spaces begin its lines, if it has lines, and the order of an
@@ -155,25 +155,6 @@ pub(super) fn send_line<W: Write>(
         return send_spaces(writer, spaces - first, slot);
     }
     Ok(())
-}
-
-/// Adds a newline and `spaces` spaces if there are fewer than 8 of them and there is room for 8
-/// bytes, and returns whether it did.
-#[inline(always)]
-pub(super) fn push_line(bytes: &mut Vec<u8>, spaces: u128) -> bool
-    ensures done { IsTrue result → bytes.new.items ≡ bytes.old.items ++ 10 ∷ replicate spaces 32 }
-    ensures left { result ≡ false → bytes.new.items ≡ bytes.old.items }
-{
-    if spaces >= LINE_ROOM as u128 || bytes.capacity() - bytes.len() < LINE_ROOM {
-        return false;
-    }
-    let end = bytes.len() + (spaces as usize + 1);
-    // A fixed number of bytes is copied faster than the exact one. The surplus is cut off.
-    let Ok(()) = bytes.extend_from_slice(&NEWLINE_AND_SPACES[..LINE_ROOM]) else {
-        unreachable!()
-    };
-    bytes.truncate(end);
-    true
 }
 
 /// Puts a newline and 7 spaces at an offset. The bytes before it stay.

@@ -1,56 +1,81 @@
-//! Pieces of a text that are added in a few stores: to memory by `push`, and to a buffer by `put`.
-//! Both add the piece and return `true`, or add nothing and return `false`: then the piece is long,
-//! needs an escape, or might not fit.
+//! Pieces of a text that are put in a few stores, if they are short and there is room.
 
-ghost use Rattle.std.specs.Prelude.{◌≡◌, ◌≤◌, ◌++◌, ◌∷◌, [], ℕ, List, IsTrue, false, replicate};
-ghost use Rattle.jzon_base.specs.NumberText.{written_text};
-ghost use Rattle.jzon_tree.specs.Private.Buffer.{buffer_items};
+ghost use Rattle.std.specs.Prelude.{◌≡◌, ◌+◌, ◌<◌, ◌≤◌, ◌++◌, ◌∷◌, [], ⊤, ℕ, List, None, IfNone, IfSome, IsTrue, length, take, drop, replicate};
+ghost use Rattle.jzon_base.specs.Decimal.{parts_of};
+ghost use Rattle.jzon_base.specs.NumberText.{IsCommon, written_text};
 ghost use Rattle.jzon_tree.specs.Text.{quoted};
 ghost use Rattle.jzon_tree.specs.Writing.{colon_text};
 
-use crate::codegen::buffer::Buffer;
-use crate::codegen::layout::{push_line, put_spaces};
-use crate::codegen::strings::{BY_ENDS_ROOM, push_short, put_short};
+use crate::codegen::layout::{LINE_ROOM, NEWLINE_AND_SPACES, put_spaces};
+use crate::codegen::strings::{BY_ENDS_MAX_LEN, BY_ENDS_ROOM, put_quoted};
 use jzon_base::number::Number;
-use jzon_base::util::print_dec::{DIGITS_ROOM, push_digits, put_digits};
+use jzon_base::util::print_dec::{DIGITS_ROOM, is_common, put_digits};
+
+/// The seed of a key; that of any other string is a part of it.
+const QUOTES: [u8; BY_ENDS_ROOM + 2] = [b'"'; BY_ENDS_ROOM + 2];
+
+/// The seed of a number.
+const MINUSES: [u8; DIGITS_ROOM] = [b'-'; DIGITS_ROOM];
 
 /// A piece of a text.
 pub trait Piece: Copy {
     // Its bytes.
     ghost text: { Self → List ℕ };
 
-    fn push(self, bytes: &mut Vec<u8>) -> bool
-        ensures done { IsTrue result → bytes.new.items ≡ bytes.old.items ++ text self }
-        ensures left { result ≡ false → bytes.new.items ≡ bytes.old.items };
+    // It is put in a few stores.
+    ghost is_short: { Self → Type 0 };
 
-    fn put(self, buffer: &mut Buffer) -> bool
-        ensures done { IsTrue result → buffer_items buffer.new
-            ≡ buffer_items buffer.old ++ text self }
-        ensures left { result ≡ false → buffer_items buffer.new ≡ buffer_items buffer.old }
-        ensures len { buffer.old.len ≤ buffer.new.len };
+    // As many bytes as `put` may change, some of which it then needn't store.
+    ghost seed_bytes: { Self → List ℕ };
+
+    /// The byte, if the piece is a byte: a vector takes it in fewer stores than a seed.
+    #[inline(always)]
+    fn as_byte(self) -> Option<u8>
+        ensures { IfSome result (λ byte. text self ≡ byte ∷ []) }
+    {
+        None
+    }
+
+    /// The bytes by which a vector is extended before `put`, if the piece is short.
+    fn seed(self) -> Option<&'static [u8]>
+        ensures some { IfSome result (λ seed. is_short self × (seed.now ≡ seed_bytes self)) }
+        ensures none { IfNone result (¬ (is_short self)) };
+
+    /// Puts a short piece at the offset, and returns its end, or `None` if it needs an escape. The
+    /// bytes before the offset stay; if `seeded`, the others are the seed.
+    fn put(self, room: &mut [u8], start: usize, seeded: bool) -> Option<usize>
+        requires short { is_short self }
+        requires room { start + length (seed_bytes self) ≤ length room.old }
+        requires seed { IsTrue seeded → drop start room.old ≡ seed_bytes self }
+        ensures text { IfSome result (λ end. take end room.new ≡ take start room.old ++ text self) }
+        ensures within { IfSome result
+            (λ end. (start ≤ end) × (end ≤ start + length (seed_bytes self))) }
+        ensures left { result ≡ None → room.new ≡ room.old }
+        ensures len { length room.new ≡ length room.old };
 }
 
-/// A byte. Less of a vector is stored than by its `write`.
+/// A byte.
 impl Piece for u8 {
     ghost text = { λ byte. byte ∷ [] };
 
+    ghost is_short = { λ _. ⊤ };
+
+    ghost seed_bytes = { λ _. 32 ∷ [] };
+
     #[inline(always)]
-    fn push(self, bytes: &mut Vec<u8>) -> bool {
-        if bytes.len() == bytes.capacity() {
-            return false;
-        }
-        bytes.push_reserved(self);
-        true
+    fn as_byte(self) -> Option<u8> {
+        Some(self)
     }
 
     #[inline(always)]
-    fn put(self, buffer: &mut Buffer) -> bool {
-        if buffer.free() == 0 {
-            return false;
-        }
-        buffer.bytes[buffer.len] = self;
-        buffer.len += 1;
-        true
+    fn seed(self) -> Option<&'static [u8]> {
+        Some(b" ")
+    }
+
+    #[inline(always)]
+    fn put(self, room: &mut [u8], start: usize, _seeded: bool) -> Option<usize> {
+        room[start] = self;
+        Some(start + 1)
     }
 }
 
@@ -61,18 +86,21 @@ pub struct Quoted<'a>(pub &'a [u8]);
 impl Piece for Quoted<'_> {
     ghost text = { λ string. quoted string.0.now };
 
+    ghost is_short = { λ string. length string.0.now ≤ 32 };
+
+    ghost seed_bytes = { λ _. replicate 34 34 };
+
     #[inline(always)]
-    fn push(self, bytes: &mut Vec<u8>) -> bool {
-        push_short(bytes, self.0)
+    fn seed(self) -> Option<&'static [u8]> {
+        if self.0.len() > BY_ENDS_MAX_LEN {
+            return None;
+        }
+        Some(&QUOTES[..BY_ENDS_ROOM])
     }
 
     #[inline(always)]
-    fn put(self, buffer: &mut Buffer) -> bool {
-        if buffer.free() < BY_ENDS_ROOM || !put_short(&mut buffer.bytes, buffer.len, self.0) {
-            return false;
-        }
-        buffer.len += self.0.len() + 2;
-        true
+    fn put(self, room: &mut [u8], start: usize, seeded: bool) -> Option<usize> {
+        put_quoted(room, start, self.0, seeded)
     }
 }
 
@@ -83,53 +111,52 @@ pub struct QuotedKey<'a>(pub &'a [u8], pub bool);
 impl Piece for QuotedKey<'_> {
     ghost text = { λ key. quoted key.0.now ++ colon_text key.1 };
 
+    ghost is_short = { λ key. length key.0.now ≤ 32 };
+
+    ghost seed_bytes = { λ _. replicate 36 34 };
+
     #[inline(always)]
-    fn push(self, bytes: &mut Vec<u8>) -> bool {
-        // There is room for what `push_short` adds at most, for the colon and for the space.
-        if bytes.capacity() - bytes.len() < BY_ENDS_ROOM + 2 || !push_short(bytes, self.0) {
-            return false;
+    fn seed(self) -> Option<&'static [u8]> {
+        if self.0.len() > BY_ENDS_MAX_LEN {
+            return None;
         }
-        bytes.push_reserved(b':');
-        if self.1 {
-            bytes.push_reserved(b' ');
-        }
-        true
+        Some(&QUOTES)
     }
 
     #[inline(always)]
-    fn put(self, buffer: &mut Buffer) -> bool {
-        let start = buffer.len;
-        if buffer.free() < BY_ENDS_ROOM + 2 || !put_short(&mut buffer.bytes, start, self.0) {
-            return false;
-        }
-        let end = start + (self.0.len() + 2);
-        buffer.bytes[end] = b':';
-        buffer.bytes[end + 1] = b' ';
-        buffer.len = end + 1 + usize::from(self.1);
-        true
+    fn put(self, room: &mut [u8], start: usize, seeded: bool) -> Option<usize> {
+        let end = put_quoted(room, start, self.0, seeded)?;
+        room[end] = b':';
+        room[end + 1] = b' ';
+        Some(end + 1 + usize::from(self.1))
     }
 }
 
 /// The text of a number, `null` for NaN.
-impl Piece for &Number {
-    ghost text = { λ number. written_text number.now };
+impl Piece for Number {
+    ghost text = { written_text };
+
+    // The parts of NaN have the mantissa 0.
+    ghost is_short = { λ number. IsCommon (parts_of number).1 (parts_of number).2 };
+
+    ghost seed_bytes = { λ _. replicate 48 45 };
 
     #[inline(always)]
-    fn push(self, bytes: &mut Vec<u8>) -> bool {
-        // The parts of NaN have the mantissa 0 too, for which nothing is added.
-        let (positive, mantissa, exponent) = self.as_parts();
-        push_digits(bytes, positive, mantissa, exponent)
+    fn seed(self) -> Option<&'static [u8]> {
+        let (_, mantissa, exponent) = self.as_parts();
+        if !is_common(mantissa, exponent) {
+            return None;
+        }
+        Some(&MINUSES)
     }
 
     #[inline(always)]
-    fn put(self, buffer: &mut Buffer) -> bool {
-        if buffer.free() < DIGITS_ROOM {
-            return false;
+    fn put(self, room: &mut [u8], start: usize, seeded: bool) -> Option<usize> {
+        if !seeded {
+            room[start] = b'-';
         }
-        let start = buffer.len;
         let (positive, mantissa, exponent) = self.as_parts();
-        buffer.len = put_digits(&mut buffer.bytes, start, positive, mantissa, exponent);
-        buffer.len != start
+        Some(put_digits(room, start, positive, mantissa, exponent))
     }
 }
 
@@ -140,18 +167,23 @@ pub struct Line(pub u128);
 impl Piece for Line {
     ghost text = { λ line. 10 ∷ replicate line.0 32 };
 
+    ghost is_short = { λ line. line.0 < 8 };
+
+    ghost seed_bytes = { λ _. 10 ∷ replicate 7 32 };
+
     #[inline(always)]
-    fn push(self, bytes: &mut Vec<u8>) -> bool {
-        push_line(bytes, self.0)
+    fn seed(self) -> Option<&'static [u8]> {
+        if self.0 >= LINE_ROOM as u128 {
+            return None;
+        }
+        Some(&NEWLINE_AND_SPACES[..LINE_ROOM])
     }
 
     #[inline(always)]
-    fn put(self, buffer: &mut Buffer) -> bool {
-        if self.0 >= 8 || buffer.free() < 8 {
-            return false;
+    fn put(self, room: &mut [u8], start: usize, seeded: bool) -> Option<usize> {
+        if !seeded {
+            put_spaces(room, start);
         }
-        put_spaces(&mut buffer.bytes, buffer.len);
-        buffer.len += self.0 as usize + 1;
-        true
+        Some(start + (self.0 as usize + 1))
     }
 }

@@ -1,6 +1,6 @@
 //! Strings and their escapes (docs/RULES.md, "Printed values").
 
-ghost use Rattle.std.specs.Prelude.{◌≡◌, ◌+◌, ◌≤◌, ◌++◌, false, length, take, drop, IsTrue, vec_capacity, vec_len};
+ghost use Rattle.std.specs.Prelude.{◌≡◌, ◌+◌, ◌≤◌, ◌++◌, false, None, length, take, drop, replicate, IsTrue, IfSome};
 ghost use Rattle.jzon_base.specs.Private.PlainBytes.{is_plain};
 ghost use Rattle.jzon_tree.specs.Private.Printing.{PutsPlain};
 ghost use Rattle.jzon_tree.specs.Text.{escaped_byte, quoted};
@@ -13,54 +13,38 @@ use std::simd::Simd;
 pub(super) const ESCAPE_MAX_LEN: usize = 6;
 
 /// The most bytes of a string that is added by two copies, of its first and of its last bytes.
-const BY_ENDS_MAX_LEN: usize = 32;
+pub(super) const BY_ENDS_MAX_LEN: usize = 32;
 
 /// The room that such a string takes with its quotes, at most.
 pub(super) const BY_ENDS_ROOM: usize = BY_ENDS_MAX_LEN + 2;
 
-/// Adds a string of at most 32 bytes in quotes if it needs no escape and there is room for 34
-/// bytes, and returns whether it did.
-// By `len` and `capacity`, the piece of a key knows that there is still room for a colon.
+/// Puts a string of at most 32 bytes in quotes at an offset if it needs no escape, and returns its
+/// end. The bytes before the offset stay; if `seeded`, the next 34 are quotes already.
 #[inline(always)]
-pub(super) fn push_short(bytes: &mut Vec<u8>, string: &[u8]) -> bool
-    ensures done { IsTrue result → bytes.new.items ≡ bytes.old.items ++ quoted string.now }
-    ensures left { result ≡ false → bytes.new.items ≡ bytes.old.items }
-    ensures len { vec_len bytes.new ≤ vec_len bytes.old + 34 }
-    ensures capacity { vec_capacity bytes.old ≤ vec_capacity bytes.new }
-{
-    let start = bytes.len();
-    if string.len() > BY_ENDS_MAX_LEN || bytes.capacity() - start < BY_ENDS_ROOM {
-        return false;
-    }
-    // The string is put over quotes, and the quotes after the second are cut off.
-    let Ok(()) = bytes.resize(start + BY_ENDS_ROOM, b'"') else {
-        unreachable!()
-    };
-    if put_if_plain(bytes.as_mut_slice(), start + 1, string) {
-        bytes.truncate(start + (string.len() + 2));
-        return true;
-    }
-    bytes.truncate(start);
-    false
-}
-
-/// Puts a string of at most 32 bytes in quotes at an offset if it needs no escape, and returns
-/// whether it did. The bytes before the offset stay.
-#[inline(always)]
-pub(super) fn put_short(room: &mut [u8], start: usize, string: &[u8]) -> bool
-    requires { start + 34 ≤ length room.old }
-    ensures done { IsTrue result → take (start + (length string.now + 2)) room.new
-        ≡ take start room.old ++ quoted string.now }
-    ensures few { IsTrue result → length string.now ≤ 32 }
-    ensures left { result ≡ false → room.new ≡ room.old }
+pub(super) fn put_quoted(
+    room: &mut [u8],
+    start: usize,
+    string: &[u8],
+    seeded: bool,
+) -> Option<usize>
+    requires few { length string.now ≤ 32 }
+    requires room { start + 34 ≤ length room.old }
+    requires quotes { IsTrue seeded → take 34 (drop start room.old) ≡ replicate 34 34 }
+    ensures text { IfSome result (λ end. take end room.new
+        ≡ take start room.old ++ quoted string.now) }
+    ensures end { IfSome result (λ end. end ≡ start + (length string.now + 2)) }
+    ensures left { result ≡ None → room.new ≡ room.old }
     ensures len { length room.new ≡ length room.old }
 {
-    if string.len() > BY_ENDS_MAX_LEN || !put_if_plain(room, start + 1, string) {
-        return false;
+    if !put_if_plain(room, start + 1, string) {
+        return None;
     }
-    room[start] = b'"';
-    room[start + 1 + string.len()] = b'"';
-    true
+    let end = start + (string.len() + 2);
+    if !seeded {
+        room[start] = b'"';
+        room[end - 1] = b'"';
+    }
+    Some(end)
 }
 
 /// Puts a string of at most 32 bytes at an offset if it needs no escape, and returns whether it
