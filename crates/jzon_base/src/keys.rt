@@ -174,8 +174,7 @@ impl Keys {
         Keys::from_distinct(alloc, Vec::new(alloc))
     }
 
-    /// No key, with room for `capacity` of them, and for their index entries if they need an index
-    /// (`Runs::with_capacity`).
+    /// No key, with room for `capacity` of them, and for an index as `Runs::with_capacity` makes it.
     pub fn with_capacity(alloc: Global, capacity: usize) -> Result<Keys, AllocError>
         ensures { IfOk result (λ k. k ≡ []) }
     {

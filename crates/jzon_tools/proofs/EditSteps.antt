@@ -2,6 +2,7 @@
 use Rattle.std.proofs.Common.{◌≡◌, ℕ, zero, suc, List, [], ◌∷◌, length, map, Option, None, Some, option_map, option_and_then, slice_get}
 use Rattle.std.proofs.Common.{Bool, true, false, nat_lt, if◌then◌else◌, refl, sym, ap, ◌∙◌, arith}
 use Rattle.std.proofs.lemmas.Bool.Decides.{nat_tests}
+use Rattle.std.proofs.lemmas.List.{length-map}
 use Rattle.std.specs.Str.{bytes_eq}
 use Rattle.std.proofs.lemmas.Option.{slice_get-map, slice_get_past}
 use Rattle.std.specs.List.{insert, remove}
@@ -28,10 +29,6 @@ module _ {X Y : Type 0} (f : X → Y) where
   map-remove (x ∷ xs) zero = refl
   map-remove (x ∷ xs) (suc i) = ap (λ ys. f x ∷ ys) (map-remove xs i)
 
-  length-seen : (xs : List X) → length (map f xs) ≡ length xs
-  length-seen [] = refl
-  length-seen (x ∷ xs) = ap (λ n. suc n) (length-seen xs)
-
 -- ---- insertion
 
 inserted_by : (items : List JsonValue) (new : JsonValue) (i : Option ℕ)
@@ -47,7 +44,7 @@ element-new items t new =
     ap (λ vs. option_map (λ i. array (values_of (insert vs i (view new)))) (new_index t (length vs)))
     (list_of_values-values_of (map view items))
     ∙ ap (λ n. option_map (λ i. array (values_of (insert (map view items) i (view new)))) (new_index t n))
-    (length-seen view items)
+    (length-map items view)
     ∙ inserted_by items new (new_index t (length items))
 
 put_by : (ps : List (List ℕ × JsonValue)) (new : JsonValue) (k : Option (List ℕ))

@@ -67,7 +67,7 @@ pub record Stopped (P : List ℕ → Type 0) (old new : Emitted) : Type 0 where
   pub style : new.style ≡ old.style
   pub lender : new.lender ≡ old.lender
 
--- the effect of a hook that adds bytes
+-- a hook adds bytes that P allows; after an error a prefix of such bytes, and one fault is counted
 abbrev pub Emits : {E : Type 0} → (List ℕ → Type 0) → Emitted → Emitted → Result (Unit {0}) E → Type 0
 Emits P old new r = MatchResult r (λ _. Added P old new) (λ _. Failed P old new)
 

@@ -56,7 +56,7 @@ impl PartialEq for Object {
             return false;
         }
         for ((key, value), entry) in self.iter().zip(other) {
-            let Some(found) = find_from(other, key, entry) else {
+            let Some(found) = find_with_guess(other, key, entry) else {
                 return false;
             };
             if !value.eq(found) {
@@ -88,20 +88,19 @@ fn same_array(items: &[JsonValue], others: &[JsonValue]) -> bool
     true
 }
 
-/// The value of the key in `object`; `None` if the key is missing. `entry` is an entry of `object`,
-/// at the position that the key has in the other object. It is tried first, because equal objects
-/// mostly have their keys in one order.
+/// The value of the key in `object`; `None` if the key is missing. `guess`, an entry of `object`, is
+/// tried first: equal objects mostly have their keys in one order.
 #[inline(always)]
-fn find_from<'a>(
+fn find_with_guess<'a>(
     object: &'a Object,
     key: &str,
-    entry: (&str, &'a JsonValue),
+    guess: (&str, &'a JsonValue),
 ) -> Option<&'a JsonValue>
-    requires { find entry.0.now (entries_of object.now) ≡ Some entry.1.now }
+    requires { find guess.0.now (entries_of object.now) ≡ Some guess.1.now }
     ensures { option_copied result ≡ find key.now (entries_of object.now) }
 {
-    if key == entry.0 {
-        Some(entry.1)
+    if key == guess.0 {
+        Some(guess.1)
     } else {
         object.get(key)
     }

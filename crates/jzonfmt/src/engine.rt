@@ -204,8 +204,11 @@ pub fn drive<R: Read, W: Write, F: Write>(
         let _ = writeln!(faults, "jzonfmt: usage: jzonfmt [--strict] [--pretty N]");
         return 2;
     };
-    match run_and_flush(alloc, reader, writer, options) {
-        Ok(()) => 0,
+    match run(alloc, reader, writer, &options.reading, options.layout) {
+        Ok(()) => match writer.flush() {
+            Ok(()) => 0,
+            Err(error) => report(faults, &RunFault::Write(error)),
+        },
         Err(fault) => report(faults, &fault),
     }
 }
@@ -253,24 +256,6 @@ fn spaces_of(word: &str) -> Option<u16>
         return None;
     }
     word.parse().ok()
-}
-
-/// Runs, and after an `Ok` flushes the writer.
-fn run_and_flush<R: Read, W: Write>(
-    alloc: Global,
-    reader: &mut R,
-    writer: &mut W,
-    options: Options,
-) -> Result<(), RunFault>
-    ensures { Runs options.reading options.layout result
-        (record { unread = R.remaining reader.old; written = W.contents writer.old })
-        (record { unread = R.remaining reader.new; written = W.contents writer.new }) }
-{
-    run(alloc, reader, writer, &options.reading, options.layout)?;
-    match writer.flush() {
-        Ok(()) => Ok(()),
-        Err(error) => Err(RunFault::Write(error)),
-    }
 }
 
 /// Writes the fault's message and a newline, and returns its exit status. A failed write is

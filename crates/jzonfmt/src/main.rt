@@ -23,15 +23,15 @@ fn main(rt: HostRuntime) -> ExitCode {
     ExitCode::from(status)
 }
 
-/// Drives the program with the standard streams, and returns the exit status.
+/// Runs `engine::drive` on the standard streams, and returns the exit status.
 fn drive_buffered(rt: &HostRuntime, words: &[String]) -> u8 {
     let mut faults = rt.stderr();
     let Ok(mut writer) = BufWriter::with_capacity(rt.alloc(), BUFFER_SIZE, rt.stdout()) else {
         return engine::report(&mut faults, &RunFault::Memory);
     };
     let status = engine::drive(rt.alloc(), words, &mut rt.stdin(), &mut writer, &mut faults);
-    // `drive` has flushed, or a write has failed. Then the drop of the `BufWriter` would write what
-    // is left once more, so its bytes are let go without it.
+    // After a failed write, the drop of the `BufWriter` would write the rest once more, so its bytes
+    // are taken out.
     let _ = writer.into_parts();
     status
 }

@@ -1,6 +1,6 @@
 //! A writer with a buffer on the stack.
 
-ghost use Rattle.std.specs.Prelude.{◌≡◌, ℕ, ◌+◌, ◌≤◌, [], length, take, MatchOption, OnErr, OnOk, IfNone, IfSome, IsErr, IsSome};
+ghost use Rattle.std.specs.Prelude.{◌≡◌, ℕ, ◌+◌, ◌≤◌, [], length, take, MatchOption, OnErr, OnOk, IfNone, IsErr, IsSome};
 ghost use Rattle.std.specs.Io.KnownBytes.{Appends, Keeps};
 
 use crate::codegen::buffer::Buffer;
@@ -24,7 +24,7 @@ impl Start for Brand {
 /// the bytes that it didn't accept are kept.
 #[derive(Drop)]
 pub(crate) struct Buffered<'a, W, S> {
-    inner: &'a mut W,
+    pub(crate) inner: &'a mut W,
     buffer: Buffer,
     /// How many of the bytes in `buffer` the writer has accepted.
     taken: usize,
@@ -54,15 +54,6 @@ impl<'a, W: Write, S: Start> Buffered<'a, W, S> {
             error: None,
             since: PhantomData,
         }
-    }
-
-    /// The reference to the writer that `new` got. Bytes that weren't written are dropped.
-    #[inline(always)]
-    pub(crate) fn into_writer(self) -> &'a mut W
-        ensures same_reference { result.ghost_name ≡ self.entry.inner.ghost_name }
-        ensures writer { result.now ≡ self.entry.inner.now }
-    {
-        self.inner
     }
 
     /// Ends a text whose writing returned `answer`: writes out the buffer, unless the writer has
@@ -128,7 +119,7 @@ impl<'a, W: Write, S: Start> Buffered<'a, W, S> {
             return None;
         }
         if buf.len() <= self.buffer.free() {
-            self.hold(buf);
+            self.buffer.add(buf);
             return Some(buf.len());
         }
         match self.inner.write(buf) {
@@ -138,29 +129,6 @@ impl<'a, W: Write, S: Start> Buffered<'a, W, S> {
                 None
             }
         }
-    }
-
-    /// Holds bytes for which there is room.
-    #[inline(always)]
-    fn hold(&mut self, bytes: &[u8])
-        requires { self.old.buffer.len + length bytes.now ≤ 1024 }
-        ensures { Appends (held W.contents S.start self.old)
-            (held W.contents S.start self.new) bytes.now }
-    {
-        self.buffer.add(bytes);
-    }
-
-    /// Takes the stored error. There is one after `write_out_and_hold` returned `None`.
-    #[inline(always)]
-    fn take_error(&mut self) -> io::Error
-        ensures bytes { Keeps (held W.contents S.start self.old)
-            (held W.contents S.start self.new) }
-        ensures error { IfSome self.old.error (λ error. result ≡ error) }
-    {
-        // An error is there, so `Other` is never returned.
-        self.error
-            .take()
-            .unwrap_or(io::Error::from(ErrorKind::Other))
     }
 }
 
@@ -173,12 +141,17 @@ impl<W: Write, S: Start> Write for Buffered<'_, W, S> {
     #[inline(always)]
     fn write(&mut self, buf: &[u8]) -> io::Result<usize> {
         if buf.len() <= self.buffer.free() {
-            self.hold(buf);
+            self.buffer.add(buf);
             return Ok(buf.len());
         }
         match self.write_out_and_hold(buf) {
             Some(count) => Ok(count),
-            None => Err(self.take_error()),
+            // An error is stored then, so `Other` is never returned.
+            None => Err(
+                self.error
+                    .take()
+                    .unwrap_or(io::Error::from(ErrorKind::Other)),
+            ),
         }
     }
 
@@ -192,6 +165,6 @@ impl<W: Write, S: Start> Write for Buffered<'_, W, S> {
 impl<W: Write, S: Start> Outlet for Buffered<'_, W, S> {
     #[inline(always)]
     fn put<P: Piece>(&mut self, piece: P) -> bool {
-        piece.put(&mut self.buffer)
+        self.buffer.put(piece)
     }
 }

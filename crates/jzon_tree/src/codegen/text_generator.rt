@@ -12,7 +12,7 @@ ghost use Rattle.jzon_tree.specs.Generator.{Added, Failed, Counts, Emits, Just, 
 ghost use Rattle.jzon_tree.specs.Generators.{text_meaning, with_writer_in, same_emitted, fresh, IsConsumed};
 ghost use Rattle.jzon_tree.specs.Styles.{compact_style, pretty_style};
 
-use crate::codegen::destination::{Destination, Memory, Outlet, Through};
+use crate::codegen::destination::{Destination, Memory};
 use crate::codegen::error_slot::{ErrorSlot, SlotResult, send, take_result};
 use crate::codegen::generator::Generator;
 use crate::codegen::layout::{Compact, Layout, Pretty, send_line};
@@ -32,7 +32,7 @@ const FIRST_ROOM: usize = 1024;
 /// the number of errors that were counted.
 #[derive(Debug, Drop)]
 pub struct TextGenerator<P: Destination, L: Layout> {
-    pub(super) destination: P,
+    pub(crate) destination: P,
     layout: L,
     dent: u64,
     faults: u64,
@@ -41,7 +41,7 @@ pub struct TextGenerator<P: Destination, L: Layout> {
 impl<P: Destination, L: Layout> TextGenerator<P, L> {
     /// A generator of this layout that adds to what was written to the destination.
     #[inline(always)]
-    pub(super) fn over(destination: P, layout: L) -> TextGenerator<P, L>
+    pub(crate) fn over(destination: P, layout: L) -> TextGenerator<P, L>
         ensures { ⟦<TextGenerator<P, L> as Generator>⟧.meaning result
             ≡ fresh (P.out destination) (L.style layout) (P.lender destination) }
     {
@@ -66,8 +66,8 @@ impl<P: Destination, L: Layout> TextGenerator<P, L> {
         step
     }
 
-    /// Writes a number; it is called for an exponent other than 0. It is a function of its own, so
-    /// that `try_write_number` saves no registers for an integer.
+    /// Writes a number whose exponent isn't 0; its error is stored in the slot. A function of its
+    /// own, so that `try_write_number` saves no registers for an integer.
     #[inline(never)]
     fn write_decimal(&mut self, num: &Number, slot: &mut ErrorSlot) -> SlotResult<()>
         ensures bytes { Emits (Just (written_text num.now))
@@ -75,7 +75,7 @@ impl<P: Destination, L: Layout> TextGenerator<P, L> {
             (text_meaning P.out P.lender L.style self.new) result }
         ensures slot { OnErr result (IsSome slot.new) }
     {
-        if self.destination.put(num) {
+        if self.destination.put(*num) {
             return Ok(());
         }
         self.write_number_text(num, slot)
@@ -215,7 +215,7 @@ impl<P: Destination, L: Layout> Generator for TextGenerator<P, L> {
         if num.as_parts().2 != 0 {
             return self.write_decimal(num, slot);
         }
-        if self.destination.put(num) {
+        if self.destination.put(*num) {
             return Ok(());
         }
         self.write_number_text(num, slot)
@@ -342,27 +342,5 @@ impl<'a, W: Write, L: Layout> TextGenerator<&'a mut W, L> {
             ≡ fresh (W.contents writer.old) (L.style layout) (Some writer.entry.ghost_name) }
     {
         TextGenerator::over(writer, layout)
-    }
-}
-
-impl<'a, W: Outlet, L: Layout> TextGenerator<Through<'a, W>, L> {
-    /// A generator of this layout that appends to what was written to the outlet.
-    pub(crate) fn to_outlet(outlet: &'a mut W, layout: L) -> TextGenerator<Through<'a, W>, L>
-        ensures { ⟦<TextGenerator<Through<'a, W>, L> as Generator>⟧.meaning result
-            ≡ fresh (W.Write.contents outlet.old) (L.style layout) (Some outlet.entry.ghost_name) }
-    {
-        TextGenerator::over(Through { outlet }, layout)
-    }
-
-    /// Ends the generator and returns the reference to its outlet that `to_outlet` took. A caller's
-    /// clause can then speak of the bytes that the outlet has.
-    pub(crate) fn into_outlet(self) -> &'a mut W
-    where
-        L: Drop,
-        ensures same_reference { result.ghost_name ≡ self.entry.destination.outlet.ghost_name }
-        ensures outlet { result.now ≡ self.entry.destination.outlet.now }
-    {
-        let Through { outlet } = self.destination;
-        outlet
     }
 }

@@ -15,7 +15,7 @@ ghost use Rattle.jzon_tree.specs.View.{view};
 ghost use Rattle.jzon_tree.specs.Writing.{Writes};
 
 use crate::codegen::buffered::{Buffered, Start};
-use crate::codegen::destination::Outlet;
+use crate::codegen::destination::{Outlet, Through};
 use crate::codegen::driver::write_value;
 use crate::codegen::{Compact, Layout, Pretty, TextGenerator, write_json};
 use crate::value::JsonValue;
@@ -153,7 +153,7 @@ fn write_in<W: Write, L: Layout + Drop, S: Start>(
     let mut buffered: Buffered<'_, W, S> = Buffered::new(writer);
     let answer = write_outlet(json, &mut buffered, layout);
     let answer = buffered.finish(answer);
-    let inner = buffered.into_writer();
+    let inner = buffered.inner;
     // No effect at run time. From this use the proof learns what the writer holds.
     let _ = &*inner;
     answer
@@ -171,10 +171,10 @@ fn write_outlet<W: Outlet, L: Layout + Drop>(
         (W.Write.contents outlet.old) (W.Write.contents outlet.new) result }
     ensures value { IsValue (view json.now) }
 {
-    let mut generator = TextGenerator::to_outlet(outlet, layout);
+    let mut generator = TextGenerator::over(Through { outlet }, layout);
     let answer = write_json(&mut generator, json);
-    let inner = generator.into_outlet();
+    let Through { outlet } = generator.destination;
     // As in `write_in`.
-    let _ = &*inner;
+    let _ = &*outlet;
     answer
 }

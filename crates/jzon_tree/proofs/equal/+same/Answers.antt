@@ -18,8 +18,8 @@ ObjectPartialEq::eq-returns-then-len t c =
     sym (counts_differ (entries_of c.args.self.now) (entries_of c.args.other.now) c.len.ensures.distinct
     c.len-2.ensures.distinct (λ e. c.if-len.true (omega (arith, e))))
 
-pub ObjectPartialEq::eq-find_from-requires : goal.ObjectPartialEq::eq-find_from-requires
-ObjectPartialEq::eq-find_from-requires t c =
+pub ObjectPartialEq::eq-find_with_guess-requires : goal.ObjectPartialEq::eq-find_with_guess-requires
+ObjectPartialEq::eq-find_with_guess-requires t c =
     next_found (entries_of c.args.other.now) (zip_second c.loop-key.key-iterator) (zip_second c.next.new.self) _ _
     c.loop-key.invariant.1 c.in-Some.ensures.steps.1
 
@@ -27,7 +27,7 @@ pub ObjectPartialEq::eq-returns-in_default : goal.ObjectPartialEq::eq-returns-in
 ObjectPartialEq::eq-returns-in_default t c =
     let others = entries_of c.args.other.now in
     let found = ap (passes (same (view c.in-Some.value.now)))
-    (view_found c.find_from.result (find c.in-Some.key.now others) c.find_from.ensures) in
+    (view_found c.find_with_guess.result (find c.in-Some.key.now others) c.find_with_guess.ensures) in
     sym (value_differs (entries_of c.args.self.now) others (zip_first c.loop-key.key-iterator)
     (zip_first c.next.new.self) _ _ c.loop-key.invariant.0 c.in-Some.ensures.steps.0
     (sym found ∙ rw c.in_default.is refl))
@@ -36,22 +36,22 @@ pub ObjectPartialEq::eq-returns-then-not-eq : goal.ObjectPartialEq::eq-returns-t
 ObjectPartialEq::eq-returns-then-not-eq t c =
     let others = entries_of c.args.other.now in
     let found = ap (passes (same (view c.in-Some.value.now)))
-    (view_found c.find_from.result (find c.in-Some.key.now others) c.find_from.ensures) in
+    (view_found c.find_with_guess.result (find c.in-Some.key.now others) c.find_with_guess.ensures) in
     sym (value_differs (entries_of c.args.self.now) others (zip_first c.loop-key.key-iterator)
     (zip_first c.next.new.self) _ _ c.loop-key.invariant.0 c.in-Some.ensures.steps.0
-    (sym found ∙ rw c.in-Some-find_from.is (sym c.if-not-eq.ensures)))
+    (sym found ∙ rw c.in-Some-find_with_guess.is (sym c.if-not-eq.ensures)))
 
 pub ObjectPartialEq::eq-loop-key-preserved : goal.ObjectPartialEq::eq-loop-key-preserved
 ObjectPartialEq::eq-loop-key-preserved t c =
     let others = entries_of c.args.other.now in
     let found = ap (passes (same (view c.in-Some.value.now)))
-    (view_found c.find_from.result (find c.in-Some.key.now others) c.find_from.ensures) in
+    (view_found c.find_with_guess.result (find c.in-Some.key.now others) c.find_with_guess.ensures) in
     let first = c.in-Some.ensures.steps.0 in
     let second = c.in-Some.ensures.steps.1 in
     let counted = ap (λ (xs : List (List ℕ × JsonValue)). length xs) first in
     let beside = ap (λ (xs : List (List ℕ × JsonValue)). length xs) second in (
       compared_next (entries_of c.args.self.now) others (zip_first c.loop-key.key-iterator)
-          (zip_first c.next.new.self) _ _ c.loop-key.invariant.0 first (sym found ∙ rw c.in-Some-find_from.is (sym c.if-not-eq.ensures)),
+          (zip_first c.next.new.self) _ _ c.loop-key.invariant.0 first (sym found ∙ rw c.in-Some-find_with_guess.is (sym c.if-not-eq.ensures)),
       left_next others (zip_second c.loop-key.key-iterator) (zip_second c.next.new.self) _ _
           c.loop-key.invariant.1 second,
       omega (arith, counted, beside),
