@@ -4,6 +4,7 @@ import glob
 import os
 import pathlib
 import re
+import subprocess
 import sys
 
 os.chdir(pathlib.Path(__file__).resolve().parent.parent)
@@ -43,3 +44,15 @@ def processes(gigabytes, spare=0):
 def is_of_allocations(crate, test):
     """Whether this is a test of allocations, which is of use only beside ci/refuse.c (ci/beside)."""
     return crate == "jzon_refusal_tests" or test.endswith(("_under_refusals", "_counted"))
+
+
+def built(crate):
+    """The path of this crate's program. If it isn't built yet, or if a source is newer, it is proved and built here."""
+    path = f"crates/{crate}/out/{crate}"
+    sources = glob.glob("crates/*/*/**/*.[ra]*t", recursive=True)
+    if not os.path.exists(path) or os.path.getmtime(path) < max(map(os.path.getmtime, ["crates.txt", *sources])):
+        with open(f"crates/{crate}/stdin", "rb") as text:
+            how = {"stdin": text, "stdout": subprocess.DEVNULL, "stderr": subprocess.DEVNULL}
+            if subprocess.run(["rt", "run"], cwd=f"crates/{crate}", **how).returncode:
+                sys.exit(f"{sys.argv[0]}: crates/{crate} doesn't build")
+    return os.path.realpath(path)

@@ -3,6 +3,7 @@
 -- `redumped` (Redump): the compact text of a value is read as a value with the same compact text
 -- `meaning_held` (MeaningHeld): what is read is a value that both laws apply to
 -- `number_read_back` (NumbersReadBack): the text of a number is read as an equal number
+-- `exact_numbers` (ExactNumbers): what an exact reading reads of a number is all that its digits spell
 -- Letters: Texts.antt, and
 --   s style   dent indentation   high how many more containers may be opened   b bytes that are written   m mantissa
 --   e exponent   ms, ns nodes or members
@@ -23,3 +24,4 @@ pub mod ReadsBack
 pub mod UnmarkedCells
 pub mod MeaningHeld
 pub mod StrictStyles
+pub mod ExactNumbers

@@ -16,8 +16,8 @@ use Rattle.jzon.specs.Fault.{Parses, IsErrorOf}
 abbrev pub IsMeaningOf : Reading → List ℕ → JsonValue → Type 0
 IsMeaningOf r t v = (d : Document) × Parses r t d × (view v ≡ meaning d.node)
 
--- The values that the law `reads_back` speaks of: numbers in range and no NaN, strings of UTF-8, distinct keys, and
--- non-empty containers no deeper than allowed.
+-- The values that the law `reads_back` speaks of: a program can hold it, it contains no NaN, and its non-empty
+-- containers nest no deeper than allowed.
 abbrev pub IsReadable : Reading → Value → Type 0
 IsReadable r v = IsValue v × HasNoNan v × (nest v ≤ r.depth)
 

@@ -6,9 +6,10 @@ use Rattle.std.specs.List.{suffix_len}
 use Rattle.jzon_base.specs.declared.error.Error.{Error}
 use Rattle.jzon_base.specs.declared.error.Error.TheVariants.{UnexpectedCharacter, UnexpectedEndOfJson}
 use Rattle.jzon_base.specs.declared.error.Error.TheVariants.{ExceededDepthLimit, FailedUtf8Parsing, DuplicateKey}
+use Rattle.jzon_base.specs.declared.error.Error.TheVariants.{InexactNumber}
 use Rattle.jzon.specs.Reading.{Reading}
 use Rattle.jzon.specs.Grammar.{Document, IsDocument}
-use Rattle.jzon.specs.Spelling.{Breach, deep, pair, digit, duplicate, spell, BreachAt, HasNoBreach}
+use Rattle.jzon.specs.Spelling.{Breach, deep, pair, digit, duplicate, inexact, spell, BreachAt, HasNoBreach}
 
 -- ---- completion
 
@@ -89,6 +90,7 @@ abbrev pub error_at : List ℕ → ℕ → Fault → Error
 error_at t i (limit deep) = ExceededDepthLimit
 error_at t i (limit pair) = FailedUtf8Parsing
 error_at t i (limit digit) = ExceededDepthLimit
+error_at t i (limit inexact) = InexactNumber (line (take i t)) (column (take i t))
 error_at t i (limit (duplicate back)) = DuplicateKey (line (take (i - back) t)) (column (take (i - back) t))
 error_at t i character = UnexpectedCharacter (slice_index t i) (line (take i t)) (column (take i t))
 error_at t i Fault.end = UnexpectedEndOfJson

@@ -1,6 +1,7 @@
 -- Laws on the definitions alone.
 use Rattle.std.specs.Prelude.{◌≡◌, ◌⊎◌, ℕ, ℤ, ◌≤◌, ◌<◌, ◌^◌, List, [], ◌∷◌, length, Bool, true, IsTrue, IsUtf8, chars}
 use Rattle.std.specs.Prelude.{FitsSigned, suc, map, take, false, Option, Some, slice_get}
+use Rattle.std.specs.Char.{is_ascii_digit}
 use Rattle.std.specs.Int.{w16}
 use Rattle.jzon_base.specs.Decimal.{parts}
 use Rattle.jzon_base.specs.Decimal as decimal
@@ -13,7 +14,8 @@ use Rattle.jzon_tree.specs.Styles.{compact_style, pretty_style}
 use Rattle.jzon_tree.specs.Writing.{Style, IsAllowedWhitespace, Writes, is_all_whitespace}
 use Rattle.jzon.specs.Reading.{Reading}
 use Rattle.jzon.specs.Grammar.{Numeral, Node, Document}
-use Rattle.jzon.specs.Spelling.{Breach, digit, Cell, spell, drops_too_many, keeps_too_many, whole_cells, fraction_cells}
+use Rattle.jzon_base.specs.LostDigits.{loses_last}
+use Rattle.jzon.specs.Spelling.{Breach, Cell, spell, drops_too_many, whole_breach, fraction_breach, whole_cells, fraction_cells}
 use Rattle.jzon.specs.Meaning.{number_of, meaning}
 use Rattle.jzon.specs.Fault.{Spells, Parses, Fault, IsFault, IsFirstFault}
 
@@ -30,15 +32,15 @@ abbrev pub mark_at : List Cell → ℕ → Option (Option Breach)
 mark_at cs i = slice_get (map (λ c. c.mark) cs) i
 
 -- A cell has one mark, and the first digit of a number may have that of a container too many. It hides no other: one
--- digit is never too many, and if the digits up to a later one are, the mark there is `digit`.
+-- digit is never too many and never lost, and if the digits up to a later one break a limit, the mark there says so.
 abbrev pub DigitBreaches : Type 0
 DigitBreaches =
     ((d : ℕ) → drops_too_many (d ∷ []) ≡ false)
-    × ((whole : List ℕ) (m : Option Breach) (k : List Cell) (i : ℕ) → suc i < length whole
-    → drops_too_many (take (suc (suc i)) whole) ≡ true → mark_at (whole_cells whole m k) (suc i) ≡ Some (Some digit))
-    × ((whole fraction : List ℕ) (k : List Cell) (i : ℕ) → i < length fraction
-    → keeps_too_many whole (take (suc i) fraction) ≡ true
-    → mark_at (fraction_cells whole fraction k) (suc i) ≡ Some (Some digit))
+    × ((d : ℕ) → IsTrue (is_ascii_digit d) → loses_last (d ∷ []) ≡ false)
+    × ((r : Reading) (whole : List ℕ) (m : Option Breach) (k : List Cell) (i : ℕ) → suc i < length whole
+    → mark_at (whole_cells r whole m k) (suc i) ≡ Some (whole_breach r (take (suc (suc i)) whole)))
+    × ((r : Reading) (whole fraction : List ℕ) (k : List Cell) (i : ℕ) → i < length fraction
+    → mark_at (fraction_cells r whole fraction k) (suc i) ≡ Some (fraction_breach r whole (take (suc i) fraction)))
 
 -- one tree spells the text, it breaks no limit, and the text has no fault
 abbrev pub HasOneTree : Reading → List ℕ → Type 0

@@ -7,6 +7,7 @@ pub mod Fault
 pub mod Laws
 pub mod Answer
 pub mod Located
+pub mod Exact
 -- the definitions that the contracts of this crate and of its re-exports cite
 pub use Rattle.jzon_base.specs.Decimal
 pub use Rattle.jzon_base.specs.DigitLimits
@@ -16,6 +17,7 @@ pub use Rattle.jzon_base.specs.ErrorText
 pub use Rattle.jzon_base.specs.Escapes
 pub use Rattle.jzon_base.specs.IterMut
 pub use Rattle.jzon_base.specs.Key
+pub use Rattle.jzon_base.specs.LostDigits
 pub use Rattle.jzon_base.specs.NumberText
 pub use Rattle.jzon_base.specs.PairList
 pub use Rattle.jzon_base.specs.Tokens

@@ -1,7 +1,8 @@
 -- The text of a tree, and where it exceeds a limit.
-use Rattle.std.specs.Prelude.{◌≡◌, ℕ, suc, ◌+◌, List, [], ◌∷◌, length, map, Bool, true, false, not, ◌&&◌, ◌==◌, nat_le}
-use Rattle.std.specs.Prelude.{if◌then◌else◌, Option, Some, None, codes, slice_get}
-use Rattle.jzon_base.specs.Digits.{dropped, kept_fraction}
+use Rattle.std.specs.Prelude.{◌≡◌, ℕ, suc, ◌+◌, List, [], ◌∷◌, ◌++◌, length, map, Bool, true, false, not, ◌&&◌, ◌==◌}
+use Rattle.std.specs.Prelude.{nat_le, if◌then◌else◌, Option, Some, None, codes, slice_get}
+use Rattle.jzon_base.specs.Digits.{digits_number, dropped, kept_fraction}
+use Rattle.jzon_base.specs.LostDigits.{loses_last, leaves_range}
 use Rattle.jzon_base.specs.Tokens.{begin_array, begin_object, decimal_point, end_array, end_object, escape, minus_sign}
 use Rattle.jzon_base.specs.Tokens.{name_separator, plus_sign, quotation_mark, value_separator}
 use Rattle.jzon_tree.specs.Same.{is_known}
@@ -9,7 +10,7 @@ use Rattle.jzon.specs.Reading.{Reading}
 use Rattle.jzon.specs.Grammar.{Sign, unsigned, plus, minus, Exponent, Numeral, Item, simple, single, double, Key, Node}
 use Rattle.jzon.specs.Grammar.{Elements, no_elements, element, Members, no_members, member, Document}
 use Rattle.jzon.specs.Grammar as grammar
-use Rattle.jzon.specs.Meaning.{is_pair, bytes_of}
+use Rattle.jzon.specs.Meaning.{is_pair, bytes_of, signed_exponent}
 
 -- the limits that a tree can break
 pub data Breach : Type 0 where
@@ -21,6 +22,8 @@ pub data Breach : Type 0 where
   digit : Breach
   -- a repeated key, with the number of characters from its opening quote to its closing quote
   duplicate : ℕ → Breach
+  -- a number that can't be had exactly
+  inexact : Breach
 
 -- A character of a text with its breach, if any. There is at most one: a depth breach is at the first character of a
 -- value or of a key, a digit breach never at the first digit of a number, a `pair` breach at the last digit of an
@@ -65,21 +68,33 @@ drops_too_many whole = dropped whole [] == 32768
 unfoldable pub keeps_too_many : List ℕ → List ℕ → Bool
 keeps_too_many whole fraction = length fraction == 32769 && kept_fraction whole fraction == 32769
 
--- digits after others (`prefix`, in reverse order), each with a breach if the digits up to it are too many
-abbrev pub digits_cells : (List ℕ → Bool) → List ℕ → List ℕ → List Cell → List Cell
-digits_cells too_many prefix [] k = k
-digits_cells too_many prefix (d ∷ ds) k =
-    cell d (breach_if (too_many (onto (d ∷ prefix) [])) digit) ∷ digits_cells too_many (d ∷ prefix) ds k
+-- the breach at the last of these digits
+abbrev pub whole_breach : Reading → List ℕ → Option Breach
+whole_breach r whole = if drops_too_many whole then Some digit else breach_if (r.exact && loses_last whole) inexact
+
+-- the breach at the last of the digits `fraction`, which follow `whole`
+abbrev pub fraction_breach : Reading → List ℕ → List ℕ → Option Breach
+fraction_breach r whole fraction =
+    if keeps_too_many whole fraction then Some digit else breach_if (r.exact && loses_last (whole ++ fraction)) inexact
+
+-- the breach at the last of these digits of an exponent
+abbrev pub exponent_breach : Reading → List ℕ → List ℕ → Sign → List ℕ → Option Breach
+exponent_breach r whole fraction s ds = breach_if (r.exact && leaves_range whole fraction (signed_exponent s (digits_number ds))) inexact
+
+-- digits after others (`prefix`, in reverse order), each with the breach of the digits up to it
+abbrev pub digits_cells : (List ℕ → Option Breach) → List ℕ → List ℕ → List Cell → List Cell
+digits_cells breach prefix [] k = k
+digits_cells breach prefix (d ∷ ds) k = cell d (breach (onto (d ∷ prefix) [])) ∷ digits_cells breach (d ∷ prefix) ds k
 
 -- the digits before the point, with the breach m at the first
-abbrev pub whole_cells : List ℕ → Option Breach → List Cell → List Cell
-whole_cells [] m k = k
-whole_cells (d ∷ ds) m k = cell d m ∷ digits_cells drops_too_many (d ∷ []) ds k
+abbrev pub whole_cells : Reading → List ℕ → Option Breach → List Cell → List Cell
+whole_cells r [] m k = k
+whole_cells r (d ∷ ds) m k = cell d m ∷ digits_cells (whole_breach r) (d ∷ []) ds k
 
 -- the point and the digits after it, if there are any; `whole` are the digits before it
-abbrev pub fraction_cells : List ℕ → List ℕ → List Cell → List Cell
-fraction_cells whole [] k = k
-fraction_cells whole (d ∷ ds) k = cell decimal_point None ∷ digits_cells (keeps_too_many whole) [] (d ∷ ds) k
+abbrev pub fraction_cells : Reading → List ℕ → List ℕ → List Cell → List Cell
+fraction_cells r whole [] k = k
+fraction_cells r whole (d ∷ ds) k = cell decimal_point None ∷ digits_cells (fraction_breach r whole) [] (d ∷ ds) k
 
 -- the sign of an exponent
 abbrev pub sign_cells : Sign → List Cell → List Cell
@@ -87,18 +102,20 @@ sign_cells unsigned k = k
 sign_cells plus k = cell plus_sign None ∷ k
 sign_cells minus k = cell minus_sign None ∷ k
 
--- the letter of an exponent, its sign and its digits
-abbrev pub exponent_cells : Option Exponent → List Cell → List Cell
-exponent_cells None k = k
-exponent_cells (Some e) k = cell e.letter None ∷ sign_cells e.sign (plain e.digits k)
+-- the letter of an exponent, its sign and its digits, after the digits `whole` and `fraction`
+abbrev pub exponent_cells : Reading → List ℕ → List ℕ → Option Exponent → List Cell → List Cell
+exponent_cells r whole fraction None k = k
+exponent_cells r whole fraction (Some e) k =
+    cell e.letter None ∷ sign_cells e.sign (digits_cells (exponent_breach r whole fraction e.sign) [] e.digits k)
 
 -- a number without its minus, with the breach m at the first digit
-abbrev pub magnitude_cells : Numeral → Option Breach → List Cell → List Cell
-magnitude_cells n m k = whole_cells n.whole m (fraction_cells n.whole n.fraction (exponent_cells n.exponent k))
+abbrev pub magnitude_cells : Reading → Numeral → Option Breach → List Cell → List Cell
+magnitude_cells r n m k =
+    whole_cells r n.whole m (fraction_cells r n.whole n.fraction (exponent_cells r n.whole n.fraction n.exponent k))
 
 -- a number, with the breach m at its first character
-abbrev pub numeral_cells : Numeral → Option Breach → List Cell → List Cell
-numeral_cells n m k = if n.negative then cell minus_sign m ∷ magnitude_cells n None k else magnitude_cells n m k
+abbrev pub numeral_cells : Reading → Numeral → Option Breach → List Cell → List Cell
+numeral_cells r n m k = if n.negative then cell minus_sign m ∷ magnitude_cells r n None k else magnitude_cells r n m k
 
 -- ---- strings
 
@@ -146,7 +163,7 @@ abbrev mutual
   node_cells r Node.null depth m k = cell 110 m ∷ plain (codes "ull") k
   node_cells r (Node.boolean true) depth m k = cell 116 m ∷ plain (codes "rue") k
   node_cells r (Node.boolean false) depth m k = cell 102 m ∷ plain (codes "alse") k
-  node_cells r (Node.number n) depth m k = numeral_cells n m k
+  node_cells r (Node.number n) depth m k = numeral_cells r n m k
   node_cells r (Node.string is) depth m k = cell quotation_mark m ∷ items_cells is (cell quotation_mark None ∷ k)
   node_cells r (Node.empty_array b) depth m k = cell begin_array m ∷ plain b (cell end_array None ∷ k)
   node_cells r (Node.empty_object b) depth m k = cell begin_object m ∷ plain b (cell end_object None ∷ k)

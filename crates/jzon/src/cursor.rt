@@ -123,11 +123,11 @@ impl<'a> Cursor<'a> {
         fault_at(self.source, self.index)
     }
 
-    /// Moves past the opening bracket that comes next, inside of `depth` containers. Returns
-    /// whether the container is empty, and then moves past its closing bracket too. If it isn't
-    /// empty, the call fails at the end of the text (`Stop::At`), and else if `depth` is the most
-    /// that the reading allows (`Stop::Limit`): empty containers don't count, so the limit is
-    /// exceeded only at the first character inside.
+    /// Moves past the opening bracket that comes next, inside of `depth` containers. If the
+    /// container is empty, moves past its closing bracket too and returns `true`. If not, fails at
+    /// the end of the text (`Stop::At`), and else if `depth` is the most that the reading allows
+    /// (`Stop::Limit`): empty containers don't count, so the limit is exceeded only at the first
+    /// character inside.
     #[inline(always)]
     pub(crate) fn open_container(&mut self, kind: ContainerKind, depth: usize) -> Result<bool>
         requires room { depth ≤ self.old.reading.depth }

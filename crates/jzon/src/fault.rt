@@ -28,6 +28,8 @@ pub(crate) enum Stop {
     At(usize),
     /// The key whose opening quote is at this offset was there before.
     Duplicate(usize),
+    /// An exact reading can't keep a number from the digit at this offset on.
+    Inexact(usize),
 }
 
 /// The result of a function of the parser.
@@ -66,6 +68,10 @@ impl Stop {
                 line: line_after(&source[..start]),
                 column: column_after(&source[..start]),
             },
+            Stop::Inexact(index) => Error::InexactNumber {
+                line: line_after(&source[..index]),
+                column: column_after(&source[..index]),
+            },
         }
     }
 
@@ -77,13 +83,15 @@ impl Stop {
     {
         let place = match self {
             Stop::Memory => None,
-            Stop::Limit(i) | Stop::Surrogates(i) | Stop::At(i) | Stop::Duplicate(i) => Some(
-                Place {
-                    offset: i,
-                    line: line_after(&source[..i]),
-                    column: column_after(&source[..i]),
-                },
-            ),
+            Stop::Limit(i)
+            | Stop::Surrogates(i)
+            | Stop::At(i)
+            | Stop::Duplicate(i)
+            | Stop::Inexact(i) => Some(Place {
+                offset: i,
+                line: line_after(&source[..i]),
+                column: column_after(&source[..i]),
+            }),
         };
         LocatedError {
             error: self.error(source),

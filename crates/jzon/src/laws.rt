@@ -3,6 +3,7 @@
 //! contract, which a proof uses as CALLING.md, "How a law is called", says. A program needs none of
 //! them.
 
+ghost use Rattle.jzon.specs.Exact.{ExactNumbers};
 ghost use Rattle.jzon.specs.Laws.{OneReading, OneText, DigitBreaches, OneFault, NumberText, Redump, StrictStyles, ReadsBack};
 
 /// Two trees that spell the same text are equal, so a text can be read in at most one way.
@@ -45,4 +46,10 @@ pub fn strict_styles()
 /// is read as an equal value; for a strict reading, if its style allows strict whitespace only.
 pub fn reads_back()
     ensures { ReadsBack }
+{}
+
+/// Each number of a text that an exact reading accepts has the value that its digits and its
+/// exponent spell: no digit but 0 is dropped, and the exponent isn't clamped.
+pub fn exact_numbers()
+    ensures { ExactNumbers }
 {}

@@ -1,71 +1,133 @@
 //! Reads numbers (RFC 8259, section 6; docs/RULES.md, "Numbers"). Clauses speak of an automaton
 //! (docs/ARCHITECTURE.md, "How the parser is proved").
 
-ghost use Rattle.std.specs.Prelude.{◌≡◌, ℕ, pos, List, [], ◌∷◌, ◌<◌, ◌≤◌, ◌+◌, ◌%◌, ◌^◌, ◌++◌, length, drop, chars, not, Bool, true, false, ◌==◌, ◌↔◌, IsTrue, IfOk, slice_index, if◌then◌else◌};
+ghost use Rattle.std.specs.Prelude.{◌≡◌, ℕ, pos, List, [], ◌∷◌, ◌<◌, ◌≤◌, ◌+◌, ◌-◌, ◌%◌, ◌^◌, ◌++◌, length, drop, chars, not, Bool, true, false, ◌==◌, ◌↔◌, IsTrue, IfOk, IfErr, OkIff, slice_index, if◌then◌else◌};
 ghost use Rattle.std.specs.Char.{is_ascii_digit};
 ghost use Rattle.std.specs.List.{All, fold, take_while};
 ghost use Rattle.std.specs.Str.{IsCharBoundary};
 ghost use Rattle.jzon_base.specs.Decimal.{signed};
 ghost use Rattle.jzon_base.specs.Digits.{IsDigit, add_digit, digits_number, number_read};
-ghost use Rattle.jzon_base.specs.DigitLimits.{AreFewEnough, IsFirstTooMany};
+ghost use Rattle.jzon_base.specs.DigitLimits.{IsFirstTooMany};
+ghost use Rattle.jzon_base.specs.LostDigits.{mantissa_and_exponent, IsReadableNumber, IsFirstFault, IsFirstLost, IsFirstOutOfRange, StaysInRange};
+ghost use Rattle.jzon.specs.declared.fault.Stop.TheVariants.{Inexact};
+ghost use Rattle.jzon.specs.Private.Stops.{stop_offset};
 ghost use Rattle.jzon_base.specs.declared.digits.DigitFault.{DigitFault};
+ghost use Rattle.jzon_base.specs.declared.digits.NumberFault.{NumberFault};
 ghost use Rattle.jzon_tree.specs.Value.{number};
-ghost use Rattle.jzon.specs.Reading.{Reading};
+ghost use Rattle.jzon.specs.Reading.{Reading as Limits};
 ghost use Rattle.jzon.specs.Grammar.{is_exponent_letter};
 ghost use Rattle.jzon.specs.Private.Classes.{after_letter};
 ghost use Rattle.jzon_base.specs.Tokens.{zero_digit};
-ghost use Rattle.jzon.specs.Private.Machine.{Frames, numeral, numeral_after_first, after_value, from, fault_here, Leads};
-ghost use Rattle.jzon.specs.Private.Numerals.{LeadsTo, MissesDigit, HasTooMany, digit_offset};
+ghost use Rattle.jzon.specs.Private.Machine.{Frames, numeral, numeral_after_first, after_value, from, fault_here, Leads, Reports};
+ghost use Rattle.jzon.specs.Private.Numerals.{after_first, AreKept, LeadsTo, MissesDigit, HasTooMany, LosesDigit, number_stop};
 
 use crate::bytes_at::{byte_at, has_byte};
 use crate::fault::{Result, Stop, fault_at};
-use jzon_base::digits::{DigitFault, first_too_many, read_scanned, scan};
+use crate::reading::Reading;
+use jzon_base::digits::{DigitFault, NumberFault, read_digits, read_scanned, scan};
 use jzon_base::number::Number;
 
 /// The number whose first digit is at `start`, after a minus if it is `negative`, and the offset
-/// after it. Fails with `Limit` if it has too many digits, and else if a digit is missing.
+/// after it. Fails if it has too many digits or, in an exact reading, isn't exact, and else if a
+/// digit is missing.
 #[inline(always)]
-pub(crate) fn read_number(source: &str, start: usize, negative: bool) -> Result<(Number, usize)>
+pub(crate) fn read_number(
+    reading: &Reading,
+    source: &str,
+    start: usize,
+    negative: bool,
+) -> Result<(Number, usize)>
     requires within { start < length source.now }
     requires digit { IsTrue (is_ascii_digit (slice_index source.now start)) }
     ensures end { IfOk result
         (λ r. (start < r.1) × (r.1 ≤ length source.now) × IsCharBoundary source.now r.1) }
-    ensures outcome { (r : Reading) (fs : Frames) →
+    ensures outcome { (r : Limits) (fs : Frames) → r.exact ≡ reading.now.exact →
         Leads r source.now (numeral_after_first fs negative (slice_index source.now start))
         (start + 1) result
         (λ v. after_value fs (number v)) }
 {
     let spelling = spelling_at(source, start);
-    let number = read_scanned(
-        !negative,
+    let parts = read_scanned(
         spelling.whole,
         spelling.fraction,
         spelling.number,
         spelling.positive_exponent,
         spelling.exponent,
+        spelling.written,
     );
-    match number {
-        // A digit too many comes before a missing one.
-        None => {
-            let fault = first_too_many(spelling.whole, spelling.fraction);
-            Err(Stop::Limit(offset_of(fault, start, spelling.whole.len())))
-        }
-        Some(_) if spelling.is_missing => Err(fault_at(source, spelling.end)),
-        Some(number) => Ok((number, spelling.end)),
+    // The sign and the end aren't returned by `read_rare`, since a value that may come from either
+    // call is a move on the usual path.
+    let (mantissa, exponent) = match parts {
+        Some(parts) => parts,
+        None => read_rare(
+            reading,
+            start,
+            spelling.whole,
+            spelling.fraction,
+            spelling.positive_exponent,
+            spelling.exponent,
+            spelling.end,
+        )?,
+    };
+    if spelling.is_missing {
+        return Err(fault_at(source, spelling.end));
+    }
+    let number = Number::from_parts_unchecked(!negative, mantissa, exponent);
+    Ok((number, spelling.end))
+}
+
+/// The mantissa and the exponent of a number that `read_scanned` doesn't read: its first digit is at
+/// `start`, and its last is before `end`.
+#[inline(always)]
+fn read_rare(
+    reading: &Reading,
+    start: usize,
+    whole: &[u8],
+    fraction: &[u8],
+    positive_exponent: bool,
+    exponent: &[u8],
+    end: usize,
+) -> Result<(u64, i16)>
+    requires whole { All IsDigit whole.now }
+    requires fraction { All IsDigit fraction.now }
+    requires exponent { All IsDigit exponent.now }
+    requires within { start + length whole.now + length fraction.now < 2 ^ 63 }
+    requires before { length exponent.now ≤ end }
+    ensures number { OkIff result
+        (IsReadableNumber reading.now.exact whole.now fraction.now (signed positive_exponent) exponent.now)
+        (mantissa_and_exponent whole.now fraction.now
+        (signed positive_exponent (digits_number exponent.now))) }
+    ensures stop { IfErr result (λ stop. (f : NumberFault)
+        × IsFirstFault reading.now.exact whole.now fraction.now (signed positive_exponent) exponent.now f
+        × (stop ≡ number_stop start (length whole.now) (end - length exponent.now) f)) }
+{
+    let parts = read_digits(
+        whole,
+        fraction,
+        positive_exponent,
+        exponent,
+        reading.exact_numbers(),
+    );
+    match parts {
+        Ok(parts) => Ok(parts),
+        Err(fault) => Err(stop_at(fault, start, whole.len(), end - exponent.len())),
     }
 }
 
-/// The offset of a digit, by its position in the number whose first digit is at `start`. `whole` is
-/// how many digits are before the point.
+/// The stop at a digit of the number whose first digit is at `start`, which has `whole` digits
+/// before the point, and those of its exponent from `exponent` on.
 #[cold]
 #[inline(never)]
-fn offset_of(fault: DigitFault, start: usize, whole: usize) -> usize
-    requires { digit_offset start whole fault < 2 ^ 64 }
-    ensures { result ≡ digit_offset start whole fault }
+fn stop_at(fault: NumberFault, start: usize, whole: usize, exponent: usize) -> Stop
+    requires { stop_offset (number_stop start whole exponent fault) < 2 ^ 64 }
+    ensures { result ≡ number_stop start whole exponent fault }
 {
     match fault {
-        DigitFault::Whole(i) => start + i,
-        DigitFault::Fraction(i) => start + whole + 1 + i,
+        NumberFault::TooMany(DigitFault::Whole(i)) => Stop::Limit(start + i),
+        NumberFault::TooMany(DigitFault::Fraction(i)) => Stop::Limit(start + whole + 1 + i),
+        NumberFault::Lost(i) if i < whole => Stop::Inexact(start + i),
+        NumberFault::Lost(i) => Stop::Inexact(start + i + 1),
+        NumberFault::OutOfRange(i) => Stop::Inexact(exponent + i),
     }
 }
 
@@ -78,6 +140,8 @@ struct Spelling<'a> {
     number: u64,
     positive_exponent: bool,
     exponent: &'a [u8],
+    /// The number that its digits spell, modulo 2^64.
+    written: u64,
     /// The offset after the number.
     end: usize,
     /// Whether a digit is required at `end`, and there is none.
@@ -86,6 +150,7 @@ struct Spelling<'a> {
     ghost fraction_digits: { All IsDigit fraction.now },
     ghost added_up: { number ≡ digits_number (whole.now ++ fraction.now) % 2 ^ 64 },
     ghost exponent_digits: { All IsDigit exponent.now },
+    ghost written_up: { written ≡ digits_number exponent.now % 2 ^ 64 },
 }
 
 /// The digits of the number whose first digit is at `start`.
@@ -95,14 +160,24 @@ fn spelling_at(source: &str, start: usize) -> Spelling<'_>
     requires digit { IsTrue (is_ascii_digit (slice_index source.now start)) }
     ensures end { (start < result.end) × (result.end ≤ length source.now)
         × IsCharBoundary source.now result.end }
-    ensures number { AreFewEnough result.whole.now result.fraction.now → result.is_missing ≡ false
-        → LeadsTo source.now start result.end (λ fs negative. after_value fs (number (number_read
+    ensures room { start + length result.whole.now + length result.fraction.now ≤ result.end }
+    ensures exponent { length result.exponent.now ≤ result.end }
+    ensures number { result.is_missing ≡ false → (r : Limits) (fs : Frames) (negative : Bool)
+        → IsReadableNumber r.exact result.whole.now result.fraction.now (signed result.positive_exponent) result.exponent.now
+        → after_first r fs negative source.now start ≡ from r source.now (after_value fs (number (number_read
         (not negative) result.whole.now result.fraction.now
-        (signed result.positive_exponent (digits_number result.exponent.now))))) }
-    ensures missing { AreFewEnough result.whole.now result.fraction.now → result.is_missing ≡ true
-        → MissesDigit source.now start result.end }
+        (signed result.positive_exponent (digits_number result.exponent.now))))) result.end }
+    ensures missing { result.is_missing ≡ true
+        → MissesDigit result.whole.now result.fraction.now source.now start result.end }
     ensures too_many { (f : DigitFault) → IsFirstTooMany result.whole.now result.fraction.now f
-        → HasTooMany source.now start (digit_offset start (length result.whole.now) f) }
+        → HasTooMany result.whole.now result.fraction.now f source.now start }
+    ensures loses { (i : ℕ) → IsFirstLost result.whole.now result.fraction.now i
+        → LosesDigit result.whole.now result.fraction.now i source.now start }
+    ensures leaves { (i : ℕ) → IsFirstOutOfRange result.whole.now result.fraction.now
+        (signed result.positive_exponent) result.exponent.now i → (r : Limits) (fs : Frames) (negative : Bool)
+        → AreKept r result.whole.now result.fraction.now → r.exact ≡ true
+        → Reports source.now (Inexact (result.end - length result.exponent.now + i))
+        (after_first r fs negative source.now start) }
 {
     let magnitude = magnitude_at(source, start);
     if magnitude.is_missing || !has_exponent_letter(source, magnitude.end) {
@@ -115,6 +190,7 @@ fn spelling_at(source: &str, start: usize) -> Spelling<'_>
         number: magnitude.number,
         positive_exponent: exponent.is_positive,
         exponent: exponent.digits,
+        written: exponent.number,
         end: exponent.end,
         is_missing: exponent.digits.is_empty(),
     }
@@ -127,21 +203,23 @@ fn magnitude_at(source: &str, start: usize) -> Spelling<'_>
     requires digit { IsTrue (is_ascii_digit (slice_index source.now start)) }
     ensures end { (start < result.end) × (result.end ≤ length source.now)
         × IsCharBoundary source.now result.end }
+    ensures room { start + length result.whole.now + length result.fraction.now ≤ result.end }
     ensures exponent { (result.positive_exponent ≡ true) × (result.exponent.now ≡ []) }
-    ensures letter { AreFewEnough result.whole.now result.fraction.now → result.is_missing ≡ false
-        → result.end < length source.now
+    ensures letter { result.is_missing ≡ false → result.end < length source.now
         → IsTrue (is_exponent_letter (slice_index source.now result.end))
-        → LeadsTo source.now start (result.end + 1) (λ fs negative. numeral fs negative
+        → LeadsTo result.whole.now result.fraction.now source.now start (result.end + 1) (λ fs negative. numeral fs negative
         (after_letter result.whole.now result.fraction.now (slice_index source.now result.end))) }
-    ensures number { AreFewEnough result.whole.now result.fraction.now → result.is_missing ≡ false
+    ensures number { result.is_missing ≡ false
         → (result.end < length source.now → is_exponent_letter (slice_index source.now result.end)
         ≡ false)
-        → LeadsTo source.now start result.end (λ fs negative. after_value fs (number (number_read
+        → LeadsTo result.whole.now result.fraction.now source.now start result.end (λ fs negative. after_value fs (number (number_read
         (not negative) result.whole.now result.fraction.now (pos 0)))) }
-    ensures missing { AreFewEnough result.whole.now result.fraction.now → result.is_missing ≡ true
-        → MissesDigit source.now start result.end }
+    ensures missing { result.is_missing ≡ true
+        → MissesDigit result.whole.now result.fraction.now source.now start result.end }
     ensures too_many { (f : DigitFault) → IsFirstTooMany result.whole.now result.fraction.now f
-        → HasTooMany source.now start (digit_offset start (length result.whole.now) f) }
+        → HasTooMany result.whole.now result.fraction.now f source.now start }
+    ensures loses { (i : ℕ) → IsFirstLost result.whole.now result.fraction.now i
+        → LosesDigit result.whole.now result.fraction.now i source.now start }
 {
     let (whole, before) = before_point(source, start);
     let end = start + whole.len();
@@ -152,6 +230,7 @@ fn magnitude_at(source: &str, start: usize) -> Spelling<'_>
             number: before,
             positive_exponent: true,
             exponent: &[],
+            written: 0,
             end,
             is_missing: false,
         };
@@ -163,6 +242,7 @@ fn magnitude_at(source: &str, start: usize) -> Spelling<'_>
         number,
         positive_exponent: true,
         exponent: &[],
+        written: 0,
         end: end + 1 + fraction.len(),
         is_missing: fraction.is_empty(),
     }
@@ -195,7 +275,7 @@ fn before_point(source: &str, start: usize) -> (&[u8], u64)
 
 /// The digits from `start` on, and the number that they make when appended to the digits of
 /// `before`, both modulo 2^64.
-#[inline(always)]
+#[inline]
 fn digits_at(source: &str, start: usize, before: u64) -> (&[u8], u64)
     requires { start ≤ length source.now }
     ensures digits { result.0.now ≡ take_while is_ascii_digit (drop start source.now) }
@@ -212,40 +292,60 @@ fn digits_at(source: &str, start: usize, before: u64) -> (&[u8], u64)
 struct Exponent<'a> {
     is_positive: bool,
     digits: &'a [u8],
+    /// The number that they spell, modulo 2^64.
+    number: u64,
     end: usize,
 }
 
-/// The exponent whose letter is before `start`. Not inlined, because few numbers have an exponent.
-#[cold]
-#[inline(never)]
+/// The exponent whose letter is before `start`.
+#[inline(always)]
 fn exponent_after(source: &str, start: usize) -> Exponent<'_>
     requires { IsCharBoundary source.now start }
     ensures end { (start ≤ result.end) × (result.end ≤ length source.now)
         × IsCharBoundary source.now result.end }
     ensures digits { All IsDigit result.digits.now }
+    ensures written { result.number ≡ digits_number result.digits.now % 2 ^ 64 }
     ensures number { 0 < length result.digits.now →
-        (r : Reading) (fs : Frames) (negative : Bool) (ws ds : List ℕ)
-        (l : ℕ)
+        (r : Limits) (fs : Frames) (negative : Bool) (ws ds : List ℕ)
+        (l : ℕ) → (r.exact ≡ true → StaysInRange ws ds (signed result.is_positive) result.digits.now)
         → from r source.now (numeral fs negative (after_letter ws ds l)) start
         ≡ from r source.now (after_value fs (number (number_read (not negative) ws ds
         (signed result.is_positive (digits_number result.digits.now))))) result.end }
     ensures missing { length result.digits.now ≡ 0 →
-        (r : Reading) (fs : Frames) (negative : Bool) (ws ds : List ℕ)
+        (r : Limits) (fs : Frames) (negative : Bool) (ws ds : List ℕ)
         (l : ℕ)
         → from r source.now (numeral fs negative (after_letter ws ds l)) start
         ≡ fault_here (chars (drop result.end source.now)) }
+    ensures leaves { (i : ℕ) (r : Limits) (fs : Frames) (negative : Bool) (ws ds : List ℕ) (l : ℕ)
+        → r.exact ≡ true → IsFirstOutOfRange ws ds (signed result.is_positive) result.digits.now i
+        → Reports source.now (Inexact (result.end - length result.digits.now + i))
+        (from r source.now (numeral fs negative (after_letter ws ds l)) start) }
+    ensures room { length result.digits.now ≤ result.end }
 {
     let (is_positive, first) = match byte_at(source, start) {
         b'-' => (false, start + 1),
         b'+' => (true, start + 1),
         _ => (true, start),
     };
-    let (digits, _) = digits_at(source, first, 0);
+    let (digits, number) = exponent_digits(source, first);
     Exponent {
         is_positive,
         digits,
+        number,
         end: first + digits.len(),
     }
+}
+
+/// The digits from `start` on, and their number modulo 2^64. Not inlined, because few numbers have
+/// an exponent.
+#[cold]
+#[inline(never)]
+fn exponent_digits(source: &str, start: usize) -> (&[u8], u64)
+    requires { start ≤ length source.now }
+    ensures digits { result.0.now ≡ take_while is_ascii_digit (drop start source.now) }
+    ensures number { result.1 ≡ digits_number result.0.now % 2 ^ 64 }
+{
+    digits_at(source, start, 0)
 }
 
 fn has_exponent_letter(source: &str, index: usize) -> bool

@@ -27,7 +27,7 @@ use std::alloc::Global;
 /// The value that a text means (RFC 8259; docs/RULES.md, "Texts").
 ///
 /// - A number keeps its digits as long as they fit in a `u64`. The others are cut, not rounded, and
-///   an exponent is clamped to -32768 to 32767; nothing reports this.
+///   an exponent is clamped to -32768 to 32767. An exact `Reading` rejects such a number.
 /// - Of a repeated key the last value is kept, at the position of the first. A strict `Reading`
 ///   rejects it.
 /// - Whitespace may also have vertical tabs and form feeds. A byte order mark isn't whitespace.
@@ -54,6 +54,7 @@ pub fn parse(alloc: Global, source: &str) -> Result<JsonValue>
 /// The value that a text means by `reading` (docs/RULES.md, "Readings"), which sets how many
 /// containers may be open, in place of 512. A strict one rejects vertical tabs and form feeds, and
 /// a repeated key with `DuplicateKey`, which has the line and column of the key's opening quote.
+/// An exact one rejects a number with `InexactNumber`, at the first digit by which it isn't exact.
 /// All else is as with `parse`.
 ///
 /// ```rust
@@ -65,7 +66,7 @@ pub fn parse_as(alloc: Global, source: &str, reading: &Reading) -> Result<JsonVa
     ensures error { IfErr result (IsErrorUnlessMemory reading.now (chars source.now)) }
     ensures memory { result ≡ Err Error.OutOfMemory → TakesMemory (chars source.now) }
 {
-    match read(alloc, source, *reading) {
+    match read(alloc, source, reading) {
         Ok(value) => Ok(value),
         Err(stop) => Err(stop.error(source)),
     }
@@ -84,24 +85,32 @@ pub fn parse_located(
     ensures error { IfErr result (IsLocated reading.now source.now) }
     ensures memory { IfErr result (λ l. l.place ≡ None → TakesMemory (chars source.now)) }
 {
-    match read(alloc, source, *reading) {
+    match read(alloc, source, reading) {
         Ok(value) => Ok(value),
         Err(stop) => Err(stop.located(source)),
     }
 }
 
 /// Parses a text, or stops at its first error, whose line and column aren't counted yet.
-fn read(alloc: Global, source: &str, reading: Reading) -> fault::Result<JsonValue>
-    ensures outcome { Reads source.now result (from reading source.now (before no_frames) 0) }
+fn read(alloc: Global, source: &str, reading: &Reading) -> fault::Result<JsonValue>
+    ensures outcome { Reads source.now result (from reading.now source.now (before no_frames) 0) }
     ensures memory { result ≡ Err Stop.Memory → TakesMemory (chars source.now) }
 {
-    let mut cursor = Cursor::new(source, reading);
+    let mut cursor = Cursor::new(source, *reading);
     let first = cursor.peek();
     let Some(kind) = ContainerKind::opened_by(first) else {
         let (source, start) = (cursor.source, cursor.index);
         let mut buffer = String::new(alloc);
         let mut value = JsonValue::Null;
-        let end = put_primitive(alloc, source, start, first, &mut buffer, &mut value)?;
+        let end = put_primitive(
+            reading,
+            alloc,
+            source,
+            start,
+            first,
+            &mut buffer,
+            &mut value,
+        )?;
         cursor.go_to(end);
         return expect_end(&cursor, value);
     };
@@ -114,7 +123,7 @@ fn read(alloc: Global, source: &str, reading: Reading) -> fault::Result<JsonValu
         stacks,
         buffer: String::new(alloc),
     };
-    parser.read_to_end()
+    parser.read_to_end(reading)
 }
 
 /// What was read of a value in a container.
@@ -151,16 +160,18 @@ struct Parser<'a> {
 }
 
 impl<'a> Parser<'a> {
-    /// Reads the rest of the text: all that the containers hold, and the end.
+    /// Reads the rest of the text: all that the containers hold, and the end. `reading` is the
+    /// cursor's, which isn't lent while other fields are.
     #[inline(never)]
-    fn read_to_end(&mut self) -> fault::Result<JsonValue>
+    fn read_to_end(&mut self, reading: &Reading) -> fault::Result<JsonValue>
         requires before { IsBeforeItem self.old.cursor self.old.stacks }
         requires strict { self.old.stacks.strict ≡ self.old.cursor.reading.strict }
+        requires reading { self.old.cursor.reading ≡ reading.now }
         ensures { Reads self.old.cursor.source.now result
             (left self.old.cursor (before_item self.old.stacks)) }
     {
         loop {
-            if let Some(kind) = self.read_items()? {
+            if let Some(kind) = self.read_items(reading)? {
                 self.stacks.open(kind)?;
             } else if let Some(value) = self.end_containers()? {
                 return expect_end(&self.cursor, value);
@@ -170,21 +181,22 @@ impl<'a> Parser<'a> {
 
     /// Reads elements or entries of the innermost container: to its end, or to a container in it
     /// that isn't empty, of which it reads the opening bracket. Returns the kind of this container,
-    /// or `None` at the end.
+    /// or `None` at the end. `reading` is the cursor's.
     #[inline(always)]
-    fn read_items(&mut self) -> fault::Result<Option<ContainerKind>>
+    fn read_items(&mut self, reading: &Reading) -> fault::Result<Option<ContainerKind>>
         requires before { IsBeforeItem self.old.cursor self.old.stacks }
         requires strict { self.old.stacks.strict ≡ self.old.cursor.reading.strict }
+        requires reading { self.old.cursor.reading ≡ reading.now }
         ensures { ReadsItems self.old.cursor self.old.stacks result self.new.cursor self.new.stacks }
     {
         let container = self.stacks.innermost_kind();
         loop {
             // One call of `read_value` for each kind: each is compiled with its closing bracket.
             let next = match container {
-                ContainerKind::Array => self.read_value(ContainerKind::Array)?,
+                ContainerKind::Array => self.read_value(reading, ContainerKind::Array)?,
                 ContainerKind::Object => {
                     self.read_key()?;
-                    self.read_value(ContainerKind::Object)?
+                    self.read_value(reading, ContainerKind::Object)?
                 }
             };
             match next {
@@ -224,7 +236,8 @@ impl<'a> Parser<'a> {
     /// the closing bracket after it. Of a container that isn't empty it reads only the opening
     /// bracket.
     #[inline(always)]
-    fn read_value(&mut self, container: ContainerKind) -> fault::Result<Next>
+    fn read_value(&mut self, reading: &Reading, container: ContainerKind) -> fault::Result<Next>
+        requires reading { self.old.cursor.reading ≡ reading.now }
         requires kind { self.old.stacks.innermost.kind ≡ container }
         requires awaits { AwaitsValue container self.old.stacks.innermost }
         requires room { length self.old.stacks.around < self.old.cursor.reading.depth }
@@ -252,7 +265,7 @@ impl<'a> Parser<'a> {
         let start = self.cursor.index;
         let end = self
             .stacks
-            .push_primitive(source, start, first, &mut self.buffer)?;
+            .push_primitive(reading, source, start, first, &mut self.buffer)?;
         if self.cursor.container_ends(end, container)? {
             return Ok(Next::End);
         }

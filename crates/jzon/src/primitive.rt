@@ -9,12 +9,13 @@ ghost use Rattle.jzon_tree.specs.View.{view};
 ghost use Rattle.jzon.specs.Private.Classes.{letter_n, letter_t, letter_f};
 ghost use Rattle.jzon.specs.Private.Machine.{numeral_after_first, before, Frames, after_value, past_letter, value_mark, from, Reports};
 ghost use Rattle.jzon.specs.Private.Targets.{MayBegin, Puts};
-ghost use Rattle.jzon.specs.Reading.{Reading};
+ghost use Rattle.jzon.specs.Reading.{Reading as Limits};
 ghost use Rattle.jzon_base.specs.Tokens.{begin_array, begin_object, quotation_mark};
 
 use crate::bytes_at::{byte_at, has_byte, has_four};
 use crate::fault::{Result, Stop, fault_at};
 use crate::numeral::read_number;
+use crate::reading::Reading;
 use crate::string::{put_string_value, read_string};
 use crate::target::Target;
 use jzon_tree::value::JsonValue;
@@ -25,6 +26,7 @@ use std::alloc::Global;
 /// unspecified afterwards.
 #[inline(always)]
 pub(crate) fn put_primitive<T: Target>(
+    reading: &Reading,
     alloc: Global,
     source: &str,
     start: usize,
@@ -40,17 +42,17 @@ pub(crate) fn put_primitive<T: Target>(
     ensures end { IfOk result (λ end. (start < end) × IsCharBoundary source.now end) }
     ensures memory { result ≡ Err Stop.Memory → first ≡ quotation_mark }
     ensures outcome { Puts (T.takes target.old) target.old target.new result source.now start before
-        (λ r fs. MayBegin r fs source.now start) }
+        (λ r fs. MayBegin r fs source.now start reading.now.exact) }
 {
     if first.is_ascii_digit() {
-        return put_magnitude(source, start, false, target);
+        return put_magnitude(reading, source, start, false, target);
     }
     match first {
         b'-' => {
             if !byte_at(source, start + 1).is_ascii_digit() {
                 return Err(fault_at(source, start + 1));
             }
-            put_magnitude(source, start + 1, true, target)
+            put_magnitude(reading, source, start + 1, true, target)
         }
         b'"' => {
             let spelled = read_string(source, start + 1, buffer)?;
@@ -67,6 +69,7 @@ pub(crate) fn put_primitive<T: Target>(
 /// offset after it.
 #[inline(always)]
 fn put_magnitude<T: Target>(
+    reading: &Reading,
     source: &str,
     start: usize,
     negative: bool,
@@ -78,9 +81,10 @@ fn put_magnitude<T: Target>(
     ensures end { IfOk result (λ end. (start < end) × IsCharBoundary source.now end) }
     ensures memory { result ≢ Err Stop.Memory }
     ensures outcome { Puts (T.takes target.old) target.old target.new result source.now (start + 1)
-        (λ fs. numeral_after_first fs negative (slice_index source.now start)) (λ r fs. ⊤) }
+        (λ fs. numeral_after_first fs negative (slice_index source.now start))
+        (λ r fs. r.exact ≡ reading.now.exact) }
 {
-    let (number, end) = read_number(source, start, negative)?;
+    let (number, end) = read_number(reading, source, start, negative)?;
     target.put(JsonValue::Number(number));
     Ok(end)
 }
@@ -135,7 +139,7 @@ fn read_letters(source: &str, start: usize, letters: &[u8]) -> Result<usize>
     requires ascii { IsAscii letters.now }
     ensures end { IfOk result (λ end. (end ≡ start + length letters.now)
         × IsCharBoundary source.now end) }
-    ensures outcome { (r : Reading) (fs : Frames) (v : Value) → MatchResult result
+    ensures outcome { (r : Limits) (fs : Frames) (v : Value) → MatchResult result
         (λ end. from r source.now (past_letter fs v letters.now) start
         ≡ from r source.now (after_value fs v) end)
         (λ e. Reports source.now e (from r source.now

@@ -1,6 +1,6 @@
 //! How texts are read (docs/RULES.md, "Readings").
 
-ghost use Rattle.std.specs.Prelude.{◌≡◌, ◌≤◌, ◌↔◌, IsTrue, SomeIff};
+ghost use Rattle.std.specs.Prelude.{◌≡◌, ◌≤◌, ◌↔◌, IsTrue, true, false, SomeIff};
 ghost use Rattle.jzon_tree.specs.View.{view};
 ghost use Rattle.jzon.specs.Answer.{IsReadable};
 
@@ -15,6 +15,7 @@ use std::marker::Model;
 pub struct Reading {
     strict: bool,
     depth: u16,
+    exact: bool,
 }
 
 impl Model for Reading {
@@ -24,7 +25,7 @@ impl Model for Reading {
 
     ghost Value = { Limits };
 
-    ghost view = { λ r. record { strict = r.strict; depth = r.depth } };
+    ghost view = { λ r. record { strict = r.strict; depth = r.depth; exact = r.exact } };
 
     ghost invariant = { λ r. r.depth ≤ 512 };
 
@@ -39,24 +40,47 @@ impl Reading {
     pub const USUAL: Reading = Reading {
         strict: false,
         depth: MAX_DEPTH,
+        exact: false,
     };
 
     /// The strict reading of depth 512.
     pub const STRICT: Reading = Reading {
         strict: true,
         depth: MAX_DEPTH,
+        exact: false,
     };
 
     /// The reading with these settings; `None` if `depth` is above 512. At depth 0 a text may be a
     /// primitive or an empty container; at depth 1 there may be primitives and empty containers in
     /// a container.
     pub fn new(strict: bool, depth: u16) -> Option<Reading>
-        ensures { SomeIff result (depth ≤ 512) (record { strict = strict; depth = depth }) }
+        ensures { SomeIff result (depth ≤ 512) (record { strict = strict; depth = depth; exact = false }) }
     {
         if depth > MAX_DEPTH {
             return None;
         }
-        Some(Reading { strict, depth })
+        Some(Reading {
+            strict,
+            depth,
+            exact: false,
+        })
+    }
+
+    /// This reading, but a number that a `Number` doesn't have exactly is rejected.
+    pub fn with_exact_numbers(self) -> Reading
+        ensures { result ≡ record self { exact = true } }
+    {
+        Reading {
+            exact: true,
+            ..self
+        }
+    }
+
+    /// Whether a number that a `Number` doesn't have exactly is rejected.
+    pub fn exact_numbers(&self) -> bool
+        ensures { result ≡ self.now.exact }
+    {
+        self.exact
     }
 
     /// Whether the reading is strict.
@@ -75,7 +99,7 @@ impl Reading {
     }
 
     /// Whether the value contains no NaN and nests no deeper than this reading allows. If so, this
-    /// reading reads its compact and pretty texts as equal values (`laws::reads_back`). It may go
+    /// reading reads its compact and pretty texts as values equal to it (`laws::reads_back`). It may go
     /// over the whole value, and allocates nothing.
     pub fn admits(&self, value: &JsonValue) -> bool
         ensures { IsTrue result ↔ IsReadable self.now (view value.now) }

@@ -19,6 +19,7 @@ ghost use Rattle.std.specs.Str.{IsCharBoundary};
 use crate::cursor::ContainerKind;
 use crate::fault;
 use crate::primitive::put_primitive;
+use crate::reading::Reading;
 use jzon_base::key::Key;
 use jzon_base::keys::KnownKeys;
 use jzon_tree::object::Object;
@@ -130,10 +131,10 @@ fn cut_tail<T>(
     stack.split_off(start)
 }
 
-/// Does what `cut_tail` does, with one exception. If the values from `start` on are many, only few
-/// are before them, and most of the block is used, they keep the block, and those before them are
-/// moved to a new one, because a copy of many values touches new pages. After an error the values
-/// may be in another order.
+/// Removes the values from `start` on and returns them, mostly by `cut_tail`. But many values of a
+/// container that isn't the outermost keep the block, if only few are before them and most of the
+/// block is used: the few are moved, because a copy of many touches new pages. After an error the
+/// values may be in another order.
 #[inline(always)]
 fn cut_values(
     alloc: Global,
@@ -268,6 +269,7 @@ impl Stacks {
     #[inline(always)]
     pub(crate) fn push_primitive(
         &mut self,
+        reading: &Reading,
         source: &str,
         start: usize,
         first: u8,
@@ -279,10 +281,18 @@ impl Stacks {
         requires no_object { first ≢ begin_object }
         ensures end { IfOk result (λ end. (start < end) × IsCharBoundary source.now end) }
         ensures outcome { Puts (λ v new. new ≡ value_added self.old v) self.old self.new result
-            source.now start before (λ r fs. MayBegin r fs source.now start) }
+            source.now start before (λ r fs. MayBegin r fs source.now start reading.now.exact) }
     {
         reserve_value(self.alloc, &mut self.values)?;
-        put_primitive(self.alloc, source, start, first, buffer, &mut self.values)
+        put_primitive(
+            reading,
+            self.alloc,
+            source,
+            start,
+            first,
+            buffer,
+            &mut self.values,
+        )
     }
 
     /// Adds a key to the innermost container, which is an object. Returns whether the key is

@@ -10,13 +10,14 @@ const PLACES: &[(&str, Option<usize>, Option<usize>)] = &[
     ("{\"a\":1,\n\"\u{e9}\":2,\"a\":3}", Some(2), Some(7)),
     ("[1,", None, None),
     ("\"\\ud800\\u0020\"", None, None),
+    ("[1,\n 18446744073709551616]", Some(2), Some(21)),
 ];
 
 #[test]
 fn reports_line_and_column(rt: HostRuntime) -> Tested {
-    let strict = Reading::new(true, 512).unwrap();
+    let reading = Reading::STRICT.with_exact_numbers();
     for (text, line, column) in PLACES {
-        match parse_as(rt.alloc(), text, &strict) {
+        match parse_as(rt.alloc(), text, &reading) {
             Ok(_) => expect(&rt, text, false),
             Err(error) => {
                 expect_eq(&rt, text, error.line(), *line);

@@ -2,6 +2,7 @@
 pub mod EightDigits
 pub mod ExactPoints
 pub mod DigitPrefixes
+pub mod LostDigits
 pub mod NumberBytes
 pub mod LeadingDigits
 pub mod Powers

@@ -5,7 +5,7 @@ use Rattle.std.specs.declared.io.ErrorKind.TheVariants as kind
 use Rattle.jzon_base.specs.declared.error.Error.{Error}
 use Rattle.jzon_base.specs.declared.error.Error.TheVariants.{UnexpectedCharacter, UnexpectedEndOfJson}
 use Rattle.jzon_base.specs.declared.error.Error.TheVariants.{ExceededDepthLimit, FailedUtf8Parsing, WrongType}
-use Rattle.jzon_base.specs.declared.error.Error.TheVariants.{OutOfMemory, DuplicateKey}
+use Rattle.jzon_base.specs.declared.error.Error.TheVariants.{OutOfMemory, DuplicateKey, InexactNumber}
 
 -- a line and a column, both counted from 1
 abbrev pub place_text : ℕ → ℕ → List ℕ
@@ -21,6 +21,7 @@ error_text FailedUtf8Parsing = codes "Failed to parse UTF-8 bytes"
 error_text (WrongType expected) = codes "Wrong type, expected: " ++ string_bytes expected
 error_text OutOfMemory = codes "Out of memory"
 error_text (DuplicateKey line column) = codes "Duplicate key at " ++ place_text line column
+error_text (InexactNumber line column) = codes "Number is not exact at " ++ place_text line column
 
 -- the kind of the `io::Error` that it becomes
 abbrev pub io_kind : Error → ErrorKind

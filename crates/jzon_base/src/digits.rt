@@ -2,16 +2,19 @@
 //! docs/RULES.md, "What digits mean" and "Digit limits").
 //!
 //! Take the digits before the point and those after it as one list. Its longest prefix that spells
-//! a number below 2^64 is kept: it is the mantissa. The digits after this prefix are dropped.
+//! a number below 2^64 is kept: it is the mantissa. The digits after this prefix are dropped. An
+//! exact reading fails at the first of them that isn't 0, and where the exponent is clamped although
+//! the number isn't 0.
 
-ghost use Rattle.std.specs.Prelude.{◌≡◌, ℕ, pos, ◌+◌, ◌%◌, ◌<◌, ◌≤◌, ◌^◌, ◌-ℤ◌, ◌+ℤ◌, ◌++◌, length, take, min, SomeIff};
+ghost use Rattle.std.specs.Prelude.{◌≡◌, ◌≢◌, ℕ, suc, pos, ◌+◌, ◌%◌, ◌<◌, ◌≤◌, ◌^◌, ◌-ℤ◌, ◌+ℤ◌, ◌++◌, Bool, length, take, min, IfErr, IfSome, None, OkIff, slice_index, true, false};
 ghost use Rattle.std.specs.Char.{is_ascii_digit};
 ghost use Rattle.std.specs.List.{fold, prefix_len, All};
 ghost use Rattle.jzon_base.specs.Decimal.{signed};
-ghost use Rattle.jzon_base.specs.Digits.{IsDigit, add_digit, digits_number, kept, dropped, kept_fraction, clamp, number_read};
-ghost use Rattle.jzon_base.specs.DigitLimits.{AreFewEnough, IsFirstTooMany, KeepsLongestPrefix};
-
-use crate::number::Number;
+ghost use Rattle.jzon_base.specs.Digits.{IsDigit, add_digit, digits_number, kept, dropped, kept_fraction, clamp};
+ghost use Rattle.jzon_base.specs.DigitLimits.{KeepsLongestPrefix};
+ghost use Rattle.jzon_base.specs.LostDigits.{mantissa_and_exponent, is_clamped, IsLost, LosesNone, LosesNoneBefore, IsWithinLimits, IsFirstLost, IsNeverClamped, IsFirstClamped, IsReadableNumber, IsFirstFault};
+ghost use Rattle.jzon_base.specs.Tokens.{zero_digit};
+ghost use Rattle.jzon_base.specs.declared.digits.NumberFault.TheVariants.{OutOfRange};
 
 mod eight_at_once;
 
@@ -19,6 +22,9 @@ use eight_at_once::{EIGHT, leading_digits, ten_to};
 
 /// Any 19 digits fit in a `u64`.
 const ALWAYS_KEPT: usize = 19;
+
+/// With so few digits, the exponent of a number of `ALWAYS_KEPT` digits isn't clamped.
+const NEVER_CLAMPED: usize = 4;
 
 /// The most digits before the point that may be dropped.
 const MAX_DROPPED: usize = 32767;
@@ -28,7 +34,20 @@ const MAX_KEPT_FRACTION: usize = 32768;
 
 /// Written exponents are capped at this. What `clamped_exponent` adds is an `i16`, so the sum is
 /// beyond an `i16` and is clamped, as it would be with any larger exponent.
-const MAX_WRITTEN: u32 = 65536;
+const MAX_WRITTEN: u64 = 65536;
+
+/// Why the digits of a number can't be read.
+#[derive(Clone, Copy, Debug, PartialEq, Eq)]
+pub enum NumberFault {
+    /// This digit exceeds a limit.
+    TooMany(DigitFault),
+    /// The digit at this position, among those before and after the point, is the first that is
+    /// dropped and isn't 0.
+    Lost(usize),
+    /// The digit at this position of the exponent is the first by which the exponent is clamped,
+    /// and the number isn't 0.
+    OutOfRange(usize),
+}
 
 /// The digit that exceeds a limit, by its position among the digits before or after the point.
 #[derive(Clone, Copy, Debug, PartialEq, Eq)]
@@ -39,55 +58,90 @@ pub enum DigitFault {
     Fraction(usize),
 }
 
-/// The number of the digits before the point, those after it and those of the exponent, and the
-/// signs of both; a missing part is empty. `number` is what `scan` returns for the digits before
-/// and after the point, one after the other. `None` if they are too many.
+/// The mantissa and the exponent of a number, by its digits before the point, after it, and of its
+/// exponent, each of which may be empty. `number` is what `scan` returns for the digits before and
+/// after the point as one text, and `written` for those of the exponent. `None` if these are more
+/// than `ALWAYS_KEPT` or `NEVER_CLAMPED` digits: then `read_digits` reads them.
 pub fn read_scanned(
-    positive: bool,
     whole: &[u8],
     fraction: &[u8],
     number: u64,
     positive_exponent: bool,
     exponent: &[u8],
-) -> Option<Number>
+    written: u64,
+) -> Option<(u64, i16)>
     requires whole { All IsDigit whole.now }
     requires fraction { All IsDigit fraction.now }
     requires number { number ≡ digits_number (whole.now ++ fraction.now) % 2 ^ 64 }
     requires exponent { All IsDigit exponent.now }
-    ensures { SomeIff result (AreFewEnough whole.now fraction.now)
-        (number_read positive whole.now fraction.now
+    requires written { written ≡ digits_number exponent.now % 2 ^ 64 }
+    ensures readable { IfSome result
+        (λ p. IsReadableNumber true whole.now fraction.now (signed positive_exponent) exponent.now) }
+    ensures number { IfSome result (λ p. p ≡ mantissa_and_exponent whole.now fraction.now
         (signed positive_exponent (digits_number exponent.now))) }
 {
-    // Most numbers have so few digits that none is dropped. Then `number` is exact, although `scan`
-    // computes it modulo 2^64.
-    if whole.len() + fraction.len() <= ALWAYS_KEPT {
-        let exponent = clamped_exponent(0, fraction.len(), positive_exponent, exponent);
-        return Some(Number::from_parts_unchecked(positive, number, exponent));
-    }
-    let (number, dropped, kept_fraction) = kept_prefix(whole, fraction);
-    if dropped > MAX_DROPPED || kept_fraction > MAX_KEPT_FRACTION {
+    if whole.len() + fraction.len() > ALWAYS_KEPT {
         return None;
     }
-    let exponent = clamped_exponent(dropped, kept_fraction, positive_exponent, exponent);
-    Some(Number::from_parts_unchecked(positive, number, exponent))
+    // None of the digits is dropped, and `number` is exact, although `scan` computes it modulo 2^64.
+    let power = -(fraction.len() as i16);
+    if exponent.is_empty() {
+        return Some((number, power));
+    }
+    if exponent.len() > NEVER_CLAMPED {
+        return None;
+    }
+    let written = written as i16;
+    let sum = if positive_exponent {
+        power + written
+    } else {
+        power - written
+    };
+    Some((number, sum))
 }
 
-/// The first digit that is too many: before the point it follows the kept digits and `MAX_DROPPED`
-/// dropped ones, and after the point `MAX_KEPT_FRACTION` kept ones.
+/// The mantissa and the exponent of the number of these digits, however many they are. Fails at the
+/// first that is too many, whatever the exponent is. If the number must be `exact`, also fails at
+/// the first digit that is lost, and else at the one by which the exponent is clamped.
 #[cold]
 #[inline(never)]
-pub fn first_too_many(whole: &[u8], fraction: &[u8]) -> DigitFault
+pub fn read_digits(
+    whole: &[u8],
+    fraction: &[u8],
+    positive_exponent: bool,
+    exponent: &[u8],
+    exact: bool,
+) -> Result<(u64, i16), NumberFault>
     requires whole { All IsDigit whole.now }
     requires fraction { All IsDigit fraction.now }
-    requires limit { ¬ AreFewEnough whole.now fraction.now }
-    ensures { IsFirstTooMany whole.now fraction.now result }
+    requires exponent { All IsDigit exponent.now }
+    ensures number { OkIff result (IsReadableNumber exact whole.now fraction.now (signed positive_exponent) exponent.now)
+        (mantissa_and_exponent whole.now fraction.now
+        (signed positive_exponent (digits_number exponent.now))) }
+    ensures fault { IfErr result (IsFirstFault exact whole.now fraction.now (signed positive_exponent) exponent.now) }
 {
-    let (_, dropped, _) = kept_prefix(whole, fraction);
-    if dropped > MAX_DROPPED {
-        DigitFault::Whole(whole.len() - dropped + MAX_DROPPED)
-    } else {
-        DigitFault::Fraction(MAX_KEPT_FRACTION)
+    let (number, dropped, kept_fraction) = kept_prefix(whole, fraction);
+    if exact {
+        if let Some(position) = first_lost(whole, fraction, dropped, kept_fraction) {
+            return Err(NumberFault::Lost(position));
+        }
     }
+    // The first digit that is too many: before the point it follows the kept digits and
+    // `MAX_DROPPED` dropped ones, and after the point `MAX_KEPT_FRACTION` kept ones.
+    if dropped > MAX_DROPPED {
+        return Err(NumberFault::TooMany(DigitFault::Whole(whole.len() - dropped + MAX_DROPPED)));
+    }
+    if kept_fraction > MAX_KEPT_FRACTION {
+        return Err(NumberFault::TooMany(DigitFault::Fraction(MAX_KEPT_FRACTION)));
+    }
+    with_exponent(
+        number,
+        dropped,
+        kept_fraction,
+        positive_exponent,
+        exponent,
+        exact,
+    )
 }
 
 /// How many digits `bytes` begin with, and the number that they spell when appended to those of
@@ -138,37 +192,76 @@ fn kept_prefix(whole: &[u8], fraction: &[u8]) -> (u64, usize, usize)
     ensures dropped { result.1 ≡ dropped whole.now fraction.now }
     ensures kept { result.2 ≡ kept_fraction whole.now fraction.now }
 {
-    let (number, count) = longest_prefix(0, whole);
+    let sure = whole.len().min(ALWAYS_KEPT);
+    let (number, count) = longest_prefix(0, whole, sure);
     if count < whole.len() {
         return (number, whole.len() - count, 0);
     }
-    let (number, kept_fraction) = longest_prefix(number, fraction);
+    let sure = fraction.len().min(ALWAYS_KEPT - sure);
+    let (number, kept_fraction) = longest_prefix(number, fraction, sure);
     (number, 0, kept_fraction)
 }
 
-/// Appends digits to `before` as long as the number stays below 2^64. Returns this number, and how
-/// many digits were appended. Cold, because only numbers of more than `ALWAYS_KEPT` digits need it.
+/// Appends digits to `before` as long as the number stays below 2^64, as it does for `sure` of them.
+/// Returns this number, and how many digits were appended. Cold, because only numbers of more than
+/// `ALWAYS_KEPT` digits need it.
 #[cold]
 #[inline(never)]
-fn longest_prefix(before: u64, digits: &[u8]) -> (u64, usize)
-    requires { All IsDigit digits.now }
+fn longest_prefix(before: u64, digits: &[u8], sure: usize) -> (u64, usize)
+    requires digits { All IsDigit digits.now }
+    requires within { sure ≤ length digits.now }
+    requires sure { fold add_digit before (take sure digits.now) < 2 ^ 64 }
     ensures number { result.0 ≡ fold add_digit before (take result.1 digits.now) }
     ensures fits { result.0 < 2 ^ 64 }
     ensures within { result.1 ≤ length digits.now }
     ensures longest { result.1 < length digits.now
         → 2 ^ 64 ≤ fold add_digit before (take (result.1 + 1) digits.now) }
 {
-    let mut number = before;
-    for (i, digit) in digits.iter().enumerate() {
+    let (_, mut number) = scan(&digits[..sure], before);
+    for i in sure..digits.len() {
         let more = number
             .checked_mul(10)
-            .and_then(|n| n.checked_add(u64::from(*digit - b'0')));
+            .and_then(|n| n.checked_add(u64::from(digits[i] - b'0')));
         match more {
             Some(n) => number = n,
             None => return (number, i),
         }
     }
     (number, digits.len())
+}
+
+/// This mantissa, and the exponent: `dropped` minus `kept_fraction` plus the written exponent,
+/// clamped. If `exact` and the mantissa isn't 0, fails at the first written digit that clamps it.
+#[inline(always)]
+fn with_exponent(
+    mantissa: u64,
+    dropped: usize,
+    kept_fraction: usize,
+    positive_exponent: bool,
+    exponent: &[u8],
+    exact: bool,
+) -> Result<(u64, i16), NumberFault>
+    requires exponent { All IsDigit exponent.now }
+    requires dropped { dropped ≤ 32767 }
+    requires kept { kept_fraction ≤ 32768 }
+    ensures number { OkIff result
+        (exact ≡ true → mantissa ≢ 0
+        → IsNeverClamped (pos dropped -ℤ pos kept_fraction) (signed positive_exponent) exponent.now) (
+          mantissa,
+          clamp ((pos dropped -ℤ pos kept_fraction)
+              +ℤ signed positive_exponent (digits_number exponent.now)),
+        ) }
+    ensures fault { IfErr result (λ e. (exact ≡ true) × (mantissa ≢ 0) × ((i : ℕ) × (e ≡ OutOfRange i)
+        × IsFirstClamped (pos dropped -ℤ pos kept_fraction) (signed positive_exponent) exponent.now i)) }
+{
+    let clamped = clamped_exponent(dropped, kept_fraction, positive_exponent, exponent);
+    if exponent.is_empty() || !exact || mantissa == 0 {
+        return Ok((mantissa, clamped));
+    }
+    match first_unfit(dropped, kept_fraction, positive_exponent, exponent) {
+        Some(position) => Err(NumberFault::OutOfRange(position)),
+        None => Ok((mantissa, clamped)),
+    }
 }
 
 /// The written exponent, plus the dropped digits before the point, minus the kept ones after it,
@@ -194,17 +287,127 @@ fn clamped_exponent(dropped: usize, kept_fraction: usize, positive: bool, writte
     sum.clamp(i32::from(i16::MIN), i32::from(i16::MAX)) as i16
 }
 
+/// The position of the first digit of the written exponent by which the exponent of the number is
+/// clamped.
+#[cold]
+#[inline(never)]
+fn first_unfit(
+    dropped: usize,
+    kept_fraction: usize,
+    positive: bool,
+    written: &[u8],
+) -> Option<usize>
+    requires digits { All IsDigit written.now }
+    requires dropped { dropped ≤ 32767 }
+    requires kept { kept_fraction ≤ 32768 }
+    ensures some { IfSome result (IsFirstClamped (pos dropped -ℤ pos kept_fraction) (signed positive) written.now) }
+    ensures none { result ≡ None → IsNeverClamped (pos dropped -ℤ pos kept_fraction) (signed positive) written.now }
+{
+    first_above(most_written(dropped, kept_fraction, positive), written)
+}
+
+/// The greatest written exponent by which the exponent of the number isn't clamped.
+fn most_written(dropped: usize, kept_fraction: usize, positive: bool) -> u32
+    requires dropped { dropped ≤ 32767 }
+    requires kept { kept_fraction ≤ 32768 }
+    ensures small { result ≤ 65535 }
+    ensures fit { (n : ℕ) → n ≤ result
+        → is_clamped ((pos dropped -ℤ pos kept_fraction) +ℤ signed positive n) ≡ false }
+    ensures unfit { (n : ℕ) → result < n
+        → is_clamped ((pos dropped -ℤ pos kept_fraction) +ℤ signed positive n) ≡ true }
+{
+    if positive {
+        (32767 - dropped + kept_fraction) as u32
+    } else {
+        (32768 - kept_fraction + dropped) as u32
+    }
+}
+
+/// The position of the first of these digits with which they spell more than `limit`.
+fn first_above(limit: u32, digits: &[u8]) -> Option<usize>
+    requires limit { limit ≤ 65535 }
+    requires digits { All IsDigit digits.now }
+    ensures some { IfSome result (λ i. (i < length digits.now)
+        × (limit < digits_number (take (suc i) digits.now))
+        × ((j : ℕ) → j < i → digits_number (take (suc j) digits.now) ≤ limit)) }
+    ensures none { result ≡ None → (i : ℕ) → i < length digits.now
+        → digits_number (take (suc i) digits.now) ≤ limit }
+{
+    let mut number = 0;
+    for (i, digit) in digits.iter().enumerate() {
+        number = number * 10 + u32::from(*digit - b'0');
+        if number > limit {
+            return Some(i);
+        }
+    }
+    None
+}
+
+/// The position of the first digit that is dropped and isn't 0, unless a digit up to it exceeds a
+/// limit. `gone` digits before the point are dropped, and `held` after it are kept.
+#[cold]
+#[inline(never)]
+fn first_lost(whole: &[u8], fraction: &[u8], gone: usize, held: usize) -> Option<usize>
+    requires dropped { gone ≡ dropped whole.now fraction.now }
+    requires kept { held ≡ kept_fraction whole.now fraction.now }
+    ensures some { IfSome result (IsFirstLost whole.now fraction.now) }
+    ensures none { result ≡ None → (i : ℕ) → IsLost (whole.now ++ fraction.now) i
+        → IsWithinLimits whole.now fraction.now i → ⊥ }
+{
+    let position = first_dropped(whole, fraction, gone, held)?;
+    if held > MAX_KEPT_FRACTION {
+        return None;
+    }
+    if gone > MAX_DROPPED && position >= whole.len() - gone + MAX_DROPPED {
+        return None;
+    }
+    Some(position)
+}
+
+/// The position of the first digit that is dropped and isn't 0, whatever the limits are.
+fn first_dropped(whole: &[u8], fraction: &[u8], gone: usize, held: usize) -> Option<usize>
+    requires dropped { gone ≡ dropped whole.now fraction.now }
+    requires kept { held ≡ kept_fraction whole.now fraction.now }
+    ensures some { IfSome result (λ i. IsLost (whole.now ++ fraction.now) i
+        × LosesNoneBefore (whole.now ++ fraction.now) i) }
+    ensures none { result ≡ None → LosesNone (whole.now ++ fraction.now) }
+{
+    match first_nonzero(whole, whole.len() - gone) {
+        Some(i) => Some(i),
+        None => match first_nonzero(fraction, held) {
+            Some(i) => Some(whole.len() + i),
+            None => None,
+        },
+    }
+}
+
+/// The position of the first digit at `start` or after it that isn't 0.
+fn first_nonzero(digits: &[u8], start: usize) -> Option<usize>
+    ensures some { IfSome result (λ i. (start ≤ i) × (i < length digits.now)
+        × (slice_index digits.now i ≢ zero_digit)
+        × ((j : ℕ) → start ≤ j → j < i → slice_index digits.now j ≡ zero_digit)) }
+    ensures none { result ≡ None
+        → (j : ℕ) → start ≤ j → j < length digits.now → slice_index digits.now j ≡ zero_digit }
+{
+    for i in start..digits.len() {
+        if digits[i] != b'0' {
+            return Some(i);
+        }
+    }
+    None
+}
+
 /// The written exponent that the digits spell, at most `MAX_WRITTEN`. Cold, because most numbers
 /// have no written exponent.
 #[cold]
 #[inline(never)]
-fn capped_number(digits: &[u8]) -> u32
+fn capped_number(digits: &[u8]) -> u64
     requires { All IsDigit digits.now }
     ensures { result ≡ min (digits_number digits.now) MAX_WRITTEN }
 {
     let mut number = 0;
     for digit in digits {
-        number = (number * 10 + u32::from(*digit - b'0')).min(MAX_WRITTEN);
+        number = (number * 10 + u64::from(*digit - b'0')).min(MAX_WRITTEN);
     }
     number
 }

@@ -43,6 +43,12 @@ pub enum Error {
         line: usize,
         column: usize,
     },
+    /// An exact reading found a number that a `Number` can't have exactly. Line and column are those
+    /// of the first character with which it can't. Printed as `Number is not exact at (L:K)`.
+    InexactNumber {
+        line: usize,
+        column: usize,
+    },
 }
 
 /// The result of a call that fails with an `Error`.
@@ -69,6 +75,7 @@ impl Error {
         match self {
             Error::UnexpectedCharacter { line, .. } => Some(*line),
             Error::DuplicateKey { line, .. } => Some(*line),
+            Error::InexactNumber { line, .. } => Some(*line),
             _ => None,
         }
     }
@@ -80,6 +87,7 @@ impl Error {
         match self {
             Error::UnexpectedCharacter { column, .. } => Some(*column),
             Error::DuplicateKey { column, .. } => Some(*column),
+            Error::InexactNumber { column, .. } => Some(*column),
             _ => None,
         }
     }
@@ -101,6 +109,9 @@ impl fmt::Display for Error {
             Error::OutOfMemory => f.write_str("Out of memory"),
             Error::DuplicateKey { line, column } => {
                 write!(f, "Duplicate key at ({line}:{column})")
+            }
+            Error::InexactNumber { line, column } => {
+                write!(f, "Number is not exact at ({line}:{column})")
             }
         }
     }

@@ -46,6 +46,14 @@ fn messages(rt: HostRuntime) -> std::result::Result<(), Fail> {
             InvalidData,
         ),
         (
+            Error::InexactNumber {
+                line: 2,
+                column: 15,
+            },
+            "Number is not exact at (2:15)",
+            InvalidData,
+        ),
+        (
             Error::wrong_type(rt.alloc(), "Array")?,
             "Wrong type, expected: Array",
             InvalidData,

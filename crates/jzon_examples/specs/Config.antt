@@ -1,7 +1,7 @@
 -- What a configuration holds, and what an error reports.
 use Rattle.std.specs.Prelude.{◌≡◌, ◌⊎◌, ℕ, List, Option, Some, None, Result, MatchResult, codes}
 use Rattle.jzon.specs.Error.{Error}
-use Rattle.jzon.specs.Error.TheVariants.{OutOfMemory, UnexpectedCharacter, DuplicateKey}
+use Rattle.jzon.specs.Error.TheVariants.{OutOfMemory, UnexpectedCharacter, DuplicateKey, InexactNumber}
 use Rattle.jzon.specs.PairList.{find}
 use Rattle.jzon.specs.Readers.{entries, or_null}
 use Rattle.jzon.specs.Value.{Value}
@@ -18,6 +18,7 @@ port_value v = member (codes "port") (member (codes "server") v)
 abbrev pub position_in : Error → Option (ℕ × ℕ)
 position_in (UnexpectedCharacter c line column) = Some (line, column)
 position_in (DuplicateKey line column) = Some (line, column)
+position_in (InexactNumber line column) = Some (line, column)
 position_in _ = None
 
 -- an allocation failed, or it is this error

@@ -32,6 +32,7 @@ pub fn position_of(error: &Error) -> Option<(usize, usize)>
     match error {
         Error::UnexpectedCharacter { line, column, .. } => Some((*line, *column)),
         Error::DuplicateKey { line, column } => Some((*line, *column)),
+        Error::InexactNumber { line, column } => Some((*line, *column)),
         _ => None,
     }
 }

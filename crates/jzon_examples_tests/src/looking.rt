@@ -3,8 +3,8 @@
 use crate::common::{Tested, expect_eq};
 use jzon::{Error, JsonValue};
 use jzon_examples::cookbook::looking::{
-    cents, identifier, integer, means_the_same, numbers_of, parse_servers, ports, strings_inside,
-    timeout, total, unset, wide_identifier,
+    cents, identifier, integer, means_the_same, numbers_of, parse_exactly, parse_servers, ports,
+    strings_inside, timeout, total, unset, wide_identifier,
 };
 
 #[test]
@@ -128,9 +128,23 @@ fn reads_prices(rt: HostRuntime) -> Tested {
         (r#"{"price": "20"}"#, None),
     ];
     for (text, expected) in rows {
-        let order = jzon::parse(rt.alloc(), text)?;
+        let order = parse_exactly(rt.alloc(), text)?;
         expect_eq(&rt, text, cents(&order), expected);
     }
+    Ok(())
+}
+
+#[test]
+fn rejects_a_price_that_is_cut(rt: HostRuntime) -> Tested {
+    let alloc = rt.alloc();
+    let cut = parse_exactly(alloc, r#"{"price": 19.990000000000000000001}"#);
+    let inexact = Error::InexactNumber {
+        line: 1,
+        column: 34,
+    };
+    assert!(rt; cut == Err(inexact));
+    let price = parse_exactly(alloc, r#"{"price": 19.990000000000000000000}"#)?;
+    expect_eq(&rt, "zeros", cents(&price), Some(1999));
     Ok(())
 }
 

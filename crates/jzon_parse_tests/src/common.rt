@@ -1,7 +1,7 @@
 //! What the tests compare by. To prove an assertion takes seconds, and a call of one of these hardly
 //! any time.
 
-use jzon::{Error, JsonValue, Reading, parse, parse_as};
+use jzon::{Error, JsonValue, LocatedError, Reading, parse, parse_as};
 use std::alloc::Global;
 use std::fmt::Debug;
 use std::process::Abort;
@@ -57,5 +57,22 @@ pub fn expect_rejected(
             expect_eq(rt, row, words.as_str(), message);
         }
     }
+    Ok(())
+}
+
+/// The error has these words and this place.
+pub fn expect_located(
+    rt: &impl Abort,
+    alloc: Global,
+    located: &LocatedError,
+    words: &str,
+    place: Option<(usize, usize, usize)>,
+) -> Result<(), Fail> {
+    let found = located
+        .place
+        .map(|place| (place.offset, place.line, place.column));
+    expect_eq(rt, words, found, place);
+    let text = located.to_string(alloc)?;
+    expect_eq(rt, words, text.as_str(), words);
     Ok(())
 }

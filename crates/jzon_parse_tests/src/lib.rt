@@ -4,6 +4,8 @@
 #[cfg(test)]
 mod common;
 #[cfg(test)]
+mod exact;
+#[cfg(test)]
 mod large;
 #[cfg(test)]
 mod macros;

@@ -1,8 +1,8 @@
 //! Errors with their places, as `parse_located` returns them.
 
-use crate::common::{expect, expect_eq};
+use crate::common::{expect, expect_eq, expect_located};
 use jzon::{Error, LocatedError, Place, Reading, parse_located};
-use jzon_test_support::{Long, rows, spelled};
+use jzon_test_support::{Long, RUNS_MAX, Refusals, rows, spelled};
 use std::alloc::Global;
 use std::process::Abort;
 use std::test::Fail;
@@ -36,47 +36,118 @@ const PLACED: &[(bool, u16, Long, &str, (usize, usize, usize))] = rows! {
     (true, 512, ("[\"漢\u{1f984}\",{\"é\":1,\"é\"", &[]), "Duplicate key at (1:14)", (19, 1, 14))
 };
 
-/// The error of a text, if the reading exists and rejects the text.
-fn error_of(alloc: Global, strict: bool, depth: u16, text: &str) -> Option<LocatedError> {
-    match parse_located(alloc, text, &Reading::new(strict, depth)?) {
+/// The same for exact readings. Of 1 and zeros, 20 digits are kept.
+const PLACED_EXACTLY: &[(bool, u16, Long, &str, (usize, usize, usize))] = rows! {
+    (false, 512, ("[\"é漢\u{1f984}\",\n1e32768", &[]), "Number is not exact at (2:7)", (20, 2, 7))
+    (true, 1, ("{\"é\": -18446744073709551616", &[]), "Number is not exact at (1:27)", (27, 1, 27))
+    // The first fault counts, and at one digit too many the limit.
+    (false, 512, ("18446744073709551616x", &[]), "Number is not exact at (1:20)", (19, 1, 20))
+    (false, 512, ("18446744073709551615x", &[]), "Unexpected character: x at (1:21)", (20, 1, 21))
+    (true, 512, ("[1.0000000000000000000001.", &[]), "Number is not exact at (1:25)", (24, 1, 25))
+    (false, 512, ("1e32768", &[("0", 5, "e")]), "Number is not exact at (1:7)", (6, 1, 7))
+    (false, 512, ("1e3276e", &[]), "Unexpected character: e at (1:7)", (6, 1, 7))
+    (true, 512, ("1.00000000000000000000e", &[]), "Unexpected end of JSON at (1:24)", (23, 1, 24))
+    (false, 0, ("[18446744073709551616]", &[]), "Exceeded depth limit at (1:2)", (1, 1, 2))
+    (true, 512, ("{\"a\":1,\"a\":1e32768}", &[]), "Duplicate key at (1:8)", (7, 1, 8))
+    (true, 512, ("{\"a\":1e32768,\"a\":1}", &[]), "Number is not exact at (1:12)", (11, 1, 12))
+    (false, 512, ("[\"\\uDC00\\uDC00\",1e32768]", &[]), "Failed to parse UTF-8 bytes at (1:14)", (13, 1, 14))
+    (false, 512, ("1", &[("0", 32786, "1")]), "Exceeded depth limit at (1:32788)", (32787, 1, 32788))
+    (true, 512, ("1", &[("0", 32785, "11")]), "Number is not exact at (1:32787)", (32786, 1, 32787))
+    (false, 512, ("1", &[("0", 32787, ".1")]), "Exceeded depth limit at (1:32788)", (32787, 1, 32788))
+    (false, 512, ("0.", &[("0", 32749, "184467440737095516151")]), "Exceeded depth limit at (1:32771)", (32770, 1, 32771))
+    (false, 512, ("0.", &[("0", 32769, "e99999")]), "Exceeded depth limit at (1:32771)", (32770, 1, 32771))
+};
+
+/// The reading of this strictness and depth.
+fn reading_of(strict: bool, depth: u16, exact: bool) -> Option<Reading> {
+    let reading = Reading::new(strict, depth)?;
+    Some(if exact {
+        reading.with_exact_numbers()
+    } else {
+        reading
+    })
+}
+
+/// The error of a text, if the reading rejects the text.
+fn error_of(alloc: Global, text: &str, reading: &Reading) -> Option<LocatedError> {
+    match parse_located(alloc, text, reading) {
         Ok(_) => None,
         Err(located) => Some(located),
     }
 }
 
-/// The error has these words and this place.
-fn expect_located(
-    rt: &impl Abort,
-    alloc: Global,
-    located: &LocatedError,
-    words: &str,
-    place: Option<(usize, usize, usize)>,
-) -> Result<(), Fail> {
-    let found = located
-        .place
-        .map(|place| (place.offset, place.line, place.column));
-    expect_eq(rt, words, found, place);
-    let text = located.to_string(alloc)?;
-    expect_eq(rt, words, text.as_str(), words);
-    Ok(())
-}
-
 #[test]
 fn locates_errors(rt: HostRuntime) -> Result<(), Fail> {
     let alloc = rt.alloc();
-    for (strict, depth, text, words, place) in PLACED {
-        let text = spelled(alloc, text)?;
-        match error_of(alloc, *strict, *depth, text.as_str()) {
-            Some(located) => expect_located(&rt, alloc, &located, words, Some(*place))?,
-            None => expect(&rt, words, false),
+    for (table, exact) in [(PLACED, false), (PLACED_EXACTLY, true)] {
+        for (strict, depth, text, words, place) in table {
+            let text = spelled(alloc, text)?;
+            let reading = reading_of(*strict, *depth, exact);
+            match reading.and_then(|reading| error_of(alloc, text.as_str(), &reading)) {
+                Some(located) => expect_located(&rt, alloc, &located, words, Some(*place))?,
+                None => expect(&rt, words, false),
+            }
         }
     }
     Ok(())
 }
 
+/// Each allocation fails in turn, which has no place. Then the text is rejected at its place.
+fn locate_under_refusals(
+    rt: &impl Abort,
+    alloc: Global,
+    text: &str,
+    reading: &Reading,
+    place: (usize, usize, usize),
+) -> Result<Refusals, Fail> {
+    let mut refusals = Refusals::new(alloc);
+    for _ in 0..RUNS_MAX {
+        refusals.open();
+        refusals.begin();
+        let located = error_of(alloc, text, reading);
+        let has_failed = refusals.has_failed();
+        let is_of_memory = located
+            .as_ref()
+            .is_some_and(|located| matches!(located.error, Error::OutOfMemory));
+        let found = located
+            .and_then(|located| located.place)
+            .map(|place| (place.offset, place.line, place.column));
+        refusals.close();
+        expect(rt, text, is_of_memory == has_failed);
+        expect_eq(rt, text, found, if has_failed { None } else { Some(place) });
+        if !has_failed {
+            break;
+        }
+    }
+    refusals.expect_even()?;
+    Ok(refusals)
+}
+
+/// Errors of each kind.
+#[test]
+fn places_under_refusals(rt: HostRuntime) -> Result<(), Fail> {
+    let alloc = rt.alloc();
+    for (table, exact) in [(PLACED, false), (PLACED_EXACTLY, true)] {
+        for (strict, depth, text, words, place) in table {
+            let text = spelled(alloc, text)?;
+            match reading_of(*strict, *depth, exact) {
+                Some(reading) => {
+                    locate_under_refusals(&rt, alloc, text.as_str(), &reading, *place)?;
+                }
+                None => expect(&rt, words, false),
+            }
+        }
+    }
+    let text = "[[\"a text of more than thirty bytes\"],\n1e32768";
+    let reading = Reading::STRICT.with_exact_numbers();
+    let refusals = locate_under_refusals(&rt, alloc, text, &reading, (45, 2, 7))?;
+    refusals.report(&rt, "parse_located", 5)?;
+    Ok(())
+}
+
 /// The error alone, for `?`.
 fn error_alone(alloc: Global, text: &str) -> jzon::Result<()> {
-    match error_of(alloc, true, 512, text) {
+    match error_of(alloc, text, &Reading::STRICT) {
         Some(located) => Err(located)?,
         None => Ok(()),
     }

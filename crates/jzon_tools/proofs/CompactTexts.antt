@@ -8,7 +8,7 @@ use Rattle.jzon.specs.SameLaws.{same_equiv}
 use Rattle.jzon.specs.Styles.{compact_style}
 use Rattle.jzon.specs.Grammar.{Document}
 use Rattle.jzon.specs.Meaning.{meaning}
-use Rattle.jzon.specs.Reading.{Reading}
+use Rattle.jzon.specs.Reading.{Reading, usual}
 use Rattle.jzon.specs.Laws.{IsReadAs}
 use Rattle.jzon.specs.Lawful.{IsValue, HasNoNan}
 use Rattle.jzon.proofs.PlainWritings.{Writes-compact}
@@ -22,7 +22,7 @@ through v w x y e a b =
     sym (same_equiv.congr (meaning x.node) v w a) ∙ c
 
 abbrev deep : ℕ → Reading
-deep n = record { strict = false; depth = n }
+deep n = record usual { depth = n }
 
 read : (n : ℕ) (v : Value) → IsValue v → HasNoNan v → nest v ≤ n
     → IsReadAs (deep n) (compact v) (λ d. IsTrue (same d v))

@@ -6,7 +6,7 @@ use Rattle.std.specs.Io.KnownBytes.{Consumes, IsAtEnd}
 use Rattle.std.proofs.KnownBytes.{Keeps-refl}
 use Rattle.jzon.specs.Error.{Error}
 use Rattle.jzon.specs.Error.TheVariants.{UnexpectedCharacter, UnexpectedEndOfJson, ExceededDepthLimit}
-use Rattle.jzon.specs.Error.TheVariants.{FailedUtf8Parsing, WrongType, OutOfMemory, DuplicateKey}
+use Rattle.jzon.specs.Error.TheVariants.{FailedUtf8Parsing, WrongType, OutOfMemory, DuplicateKey, InexactNumber}
 use Rattle.jzon.specs.Reading.{Reading}
 use Rattle.jzon.specs.Answer.{IsErrorUnlessMemory}
 use Rattle.jzonfmt.specs.Run.{fault_of, ReadsInput, Answers}
@@ -30,6 +30,8 @@ answers_fault T reading layout input (WrongType s) w u (inl e) = absurd (cc)
 answers_fault T reading layout input (WrongType s) w u (inr h) = ((u, h), Keeps-refl w)
 answers_fault T reading layout input (DuplicateKey l k) w u (inl e) = absurd (cc)
 answers_fault T reading layout input (DuplicateKey l k) w u (inr h) = ((u, h), Keeps-refl w)
+answers_fault T reading layout input (InexactNumber l k) w u (inl e) = absurd (cc)
+answers_fault T reading layout input (InexactNumber l k) w u (inr h) = ((u, h), Keeps-refl w)
 
 -- the error of the text, reported as a fault
 pub answers_error : {T : Type 0} (reading : Reading) (layout : Layout) (input : List ℕ) (e : Error)

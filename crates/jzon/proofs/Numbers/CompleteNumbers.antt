@@ -6,7 +6,7 @@ use Rattle.jzon_tree.specs.Value as value
 use Rattle.jzon.specs.Reading.{Reading}
 use Rattle.jzon.specs.Grammar.{Sign, unsigned, plus, minus, Exponent, Numeral, AreDigits, IsDigits, IsWhole, IsExponent}
 use Rattle.jzon.specs.Grammar.{IsNumeral}
-use Rattle.jzon.specs.Spelling.{Cell, cell, plain, onto, digits_cells, drops_too_many, keeps_too_many, sign_cells}
+use Rattle.jzon.specs.Spelling.{Cell, cell, onto, digits_cells, whole_breach, fraction_breach, exponent_breach, sign_cells}
 use Rattle.jzon.specs.Spelling.{exponent_cells, fraction_cells, numeral_cells}
 use Rattle.jzon.specs.Meaning.{number_of}
 use Rattle.jzon.specs.Private.Classes.{Class, digits, point, letter_e, class_of, NumberState, zero_read, whole}
@@ -34,19 +34,20 @@ module _ (r : Reading) (G : Outcome → Type 0) (fs : Frames) (negative : Bool) 
 
   past_exponent : (class : Class) (ws ds : List ℕ) (l : ℕ) (s : Sign) (xs : List ℕ) (y : Cell) (k : List Cell)
       → Reads y k (move_after_value class fs (number_value negative ws ds (exponent_of l s (onto xs []))))
-      → Reads y k (move_numeral (exponent ws ds l s xs) class fs negative y.char)
+      → Reads y k (move_numeral r (exponent ws ds l s xs) class fs negative y.char)
   past_exponent digits ws ds l s xs y k h = absurd h
   past_exponent _ ws ds l s xs y k h = h
 
   read_exponent : (ws ds : List ℕ) (l : ℕ) (s : Sign) (xs es : List ℕ) (k : List Cell) → AreDigits es
-      → B ws ds (exponent_of l s (onto xs es)) k → F (plain es k) (exponent ws ds l s xs)
+      → B ws ds (exponent_of l s (onto xs es)) k → F (digits_cells (exponent_breach r ws ds s) xs es k) (exponent ws ds l s xs)
   read_exponent ws ds l s xs [] [] ok h = h
   read_exponent ws ds l s xs [] (y ∷ k) ok h = past_exponent (class_of r.strict y.char) ws ds l s xs y k h
   read_exponent ws ds l s xs (e ∷ es) k ok h =
       rw (digits-class r.strict e ok.0) (refl, read_exponent ws ds l s (e ∷ xs) es k ok.1 h)
 
   read_letter : (ws ds : List ℕ) (l : ℕ) (s : Sign) (es : List ℕ) (k : List Cell) → IsDigits es
-      → B ws ds (exponent_of l s es) k → F (sign_cells s (plain es k)) (after_letter ws ds l)
+      → B ws ds (exponent_of l s es) k
+      → F (sign_cells s (digits_cells (exponent_breach r ws ds s) [] es k)) (after_letter ws ds l)
   read_letter ws ds l s [] k ok h = absurd ok
   read_letter ws ds l unsigned (e ∷ es) k ok h =
       rw (digits-class r.strict e ok.0) (refl, read_exponent ws ds l unsigned (e ∷ []) es k ok.1 h)
@@ -61,13 +62,13 @@ module _ (r : Reading) (G : Outcome → Type 0) (fs : Frames) (negative : Bool) 
 
   past_fraction : (class : Class) (ws ds : List ℕ) (y : Cell) (k : List Cell)
       → Reads y k (move_after_value class fs (number_value negative ws (onto ds []) None))
-      → Reads y k (move_numeral (fraction ws ds) class fs negative y.char)
+      → Reads y k (move_numeral r (fraction ws ds) class fs negative y.char)
   past_fraction digits ws ds y k h = absurd h
   past_fraction letter_e ws ds y k h = absurd h
   past_fraction _ ws ds y k h = h
 
   read_fraction : (ws ds es : List ℕ) (x : Option Exponent) (k : List Cell) → AreDigits es → IsExponent x
-      → B ws (onto ds es) x k → F (digits_cells (keeps_too_many ws) ds es (exponent_cells x k)) (fraction ws ds)
+      → B ws (onto ds es) x k → F (digits_cells (fraction_breach r ws) ds es (exponent_cells r ws (onto ds es) x k)) (fraction ws ds)
   read_fraction ws ds [] None [] ok x_ok h = h
   read_fraction ws ds [] None (y ∷ k) ok x_ok h = past_fraction (class_of r.strict y.char) ws ds y k h
   read_fraction ws ds [] (Some x) k ok x_ok h =
@@ -81,7 +82,7 @@ module _ (r : Reading) (G : Outcome → Type 0) (fs : Frames) (negative : Bool) 
   -- in this state the whole digits ws are read, and what follows isn't another digit
   record EndsWhole (x : NumberState) (ws : List ℕ) : Type 0 where
     past : (class : Class) (y : Cell) (k : List Cell) → Reads y k (move_after_whole class fs negative ws y.char)
-        → Reads y k (move_numeral x class fs negative y.char)
+        → Reads y k (move_numeral r x class fs negative y.char)
     ends : G (meant_at fs (number_value negative ws [] None)) → G (last_numeral x fs negative)
 
   zero_ends : EndsWhole zero_read (48 ∷ [])
@@ -89,7 +90,7 @@ module _ (r : Reading) (G : Outcome → Type 0) (fs : Frames) (negative : Bool) 
 
   past_digits : (class : Class) (ds : List ℕ) (y : Cell) (k : List Cell)
       → Reads y k (move_after_whole class fs negative (onto ds []) y.char)
-      → Reads y k (move_numeral (whole ds) class fs negative y.char)
+      → Reads y k (move_numeral r (whole ds) class fs negative y.char)
   past_digits digits ds y k h = absurd h
   past_digits _ ds y k h = h
 
@@ -104,27 +105,29 @@ module _ (r : Reading) (G : Outcome → Type 0) (fs : Frames) (negative : Bool) 
   past_whole _ ws y k h = h
 
   read_after_whole : (x : NumberState) (ws ds : List ℕ) (e : Option Exponent) (k : List Cell) → EndsWhole x ws
-      → AreDigits ds → IsExponent e → B ws ds e k → F (fraction_cells ws ds (exponent_cells e k)) x
+      → AreDigits ds → IsExponent e → B ws ds e k → F (fraction_cells r ws ds (exponent_cells r ws ds e k)) x
   read_after_whole x ws [] None [] end ok e_ok h = end.ends h
   read_after_whole x ws [] None (y ∷ k) end ok e_ok h =
       end.past (class_of r.strict y.char) y k (past_whole (class_of r.strict y.char) ws y k h)
   read_after_whole x ws [] (Some e) k end ok e_ok h =
-      end.past (class_of r.strict e.letter) (cell e.letter None) (sign_cells e.sign (plain e.digits k))
+      end.past (class_of r.strict e.letter) (cell e.letter None)
+      (sign_cells e.sign (digits_cells (exponent_breach r ws [] e.sign) [] e.digits k))
       (rw (letter_e-class r.strict e.letter e_ok.0)
       (refl, read_letter ws [] e.letter e.sign e.digits k e_ok.1 h))
   read_after_whole x ws (d ∷ ds) e k end ok e_ok h =
-      end.past (class_of r.strict 46) (cell 46 None) (digits_cells (keeps_too_many ws) [] (d ∷ ds) (exponent_cells e k))
+      end.past (class_of r.strict 46) (cell 46 None) (digits_cells (fraction_breach r ws) [] (d ∷ ds)
+      (exponent_cells r ws (d ∷ ds) e k))
       (rw (class-char r.strict point)
       (refl, rw (digits-class r.strict d ok.0) (refl, read_fraction ws (d ∷ []) ds e k ok.1 e_ok h)))
 
   read_whole : (ds es : List ℕ) (k : List Cell) → AreDigits es → F k (whole (onto es ds))
-      → F (digits_cells drops_too_many ds es k) (whole ds)
+      → F (digits_cells (whole_breach r) ds es k) (whole ds)
   read_whole ds [] k ok h = h
   read_whole ds (e ∷ es) k ok h = rw (digits-class r.strict e ok.0) (refl, read_whole (e ∷ ds) es k ok.1 h)
 
   read_first : (is_zero : Bool) (d : ℕ) (es : List ℕ) (k : List Cell) → d == 48 ≡ is_zero → IsWhole (d ∷ es)
       → ((x : NumberState) → EndsWhole x (d ∷ es) → F k x)
-      → F (digits_cells drops_too_many (d ∷ []) es k) (after_first_digit is_zero d)
+      → F (digits_cells (whole_breach r) (d ∷ []) es k) (after_first_digit is_zero d)
   read_first true d [] k e ok h =
       h zero_read (subst (λ z. EndsWhole zero_read (z ∷ [])) (sym (eqb-true d 48 e)) zero_ends)
   read_first true d (x ∷ es) k e ok h = absurd (true≢false (sym e ∙ not-true _ (and_parts _ _ ok.0).1))
@@ -139,7 +142,7 @@ module _ (r : Reading) (G : Outcome → Type 0) (fs : Frames) (negative : Bool) 
 
   read_magnitude : (d : ℕ) (es ds : List ℕ) (x : Option Exponent) (k : List Cell) → IsWhole (d ∷ es) → AreDigits ds
       → IsExponent x → B (d ∷ es) ds x k
-      → F (digits_cells drops_too_many (d ∷ []) es (fraction_cells (d ∷ es) ds (exponent_cells x k)))
+      → F (digits_cells (whole_breach r) (d ∷ []) es (fraction_cells r (d ∷ es) ds (exponent_cells r (d ∷ es) ds x k)))
       (after_first_digit (d == 48) d)
   read_magnitude d es ds x k ok ds_ok x_ok h =
       read_first (d == 48) d es _ refl ok (λ p end. read_after_whole p (d ∷ es) ds x k end ds_ok x_ok h)
@@ -147,7 +150,7 @@ module _ (r : Reading) (G : Outcome → Type 0) (fs : Frames) (negative : Bool) 
 module _ (r : Reading) (G : Outcome → Type 0) (fs : Frames) where
   read_signed : (negative : Bool) (ws ds : List ℕ) (x : Option Exponent) (k : List Cell) → IsWhole ws → AreDigits ds
       → IsExponent x → Follows r G k (after_value fs (number_value negative ws ds x))
-      → Follows r G (numeral_cells (record { negative = negative; whole = ws; fraction = ds; exponent = x })
+      → Follows r G (numeral_cells r (record { negative = negative; whole = ws; fraction = ds; exponent = x })
       (value_mark r fs) k) (before fs)
   read_signed negative [] ds x k ok ds_ok x_ok h = absurd ok
   read_signed true (d ∷ es) ds x k ok ds_ok x_ok h =
@@ -162,5 +165,5 @@ module _ (r : Reading) (G : Outcome → Type 0) (fs : Frames) where
 
   pub complete_number : (n : Numeral) (k : List Cell) → IsNumeral n
       → Follows r G k (after_value fs (value.number (number_of n)))
-      → Follows r G (numeral_cells n (value_mark r fs) k) (before fs)
+      → Follows r G (numeral_cells r n (value_mark r fs) k) (before fs)
   complete_number n k ok h = read_signed n.negative n.whole n.fraction n.exponent k ok.0 ok.1 ok.2 h

@@ -8,7 +8,7 @@ use Rattle.jzon.proofs.Texts.ClassesOfCharacters.{class-says, digits-class}
 use Rattle.jzon.proofs.Texts.StepsByByte.{StopsAt, from_step, digit_is_ascii}
 
 no_digit_on : (r : Reading) (fs : Frames) (c : ℕ) (k : Class) → (IsTrue (is_ascii_digit c) → ⊥)
-    → class_of r.strict c ≡ k → move_numeral after_minus k fs true c ≡ bad
+    → class_of r.strict c ≡ k → move_numeral r after_minus k fs true c ≡ bad
 no_digit_on r fs c digits h e = absurd (h (class-says r.strict c e))
 no_digit_on r fs c _ h e = refl
 
@@ -27,4 +27,4 @@ pub digit_goes : (r : Reading) (bs : List ℕ) (i : ℕ) (fs : Frames) → IsUtf
     (i + 1)
 digit_goes r bs i fs u at (lt, d) =
     from_step r bs i (numeral fs true after_minus) _ (get_or bs i 0) u at lt refl (digit_is_ascii (get_or bs i 0) d)
-    (ap (λ k. move_numeral after_minus k fs true (get_or bs i 0)) (digits-class r.strict (get_or bs i 0) d))
+    (ap (λ k. move_numeral r after_minus k fs true (get_or bs i 0)) (digits-class r.strict (get_or bs i 0) d))

@@ -1,5 +1,5 @@
 -- The digits of a number and its exponent, by offsets of the text's bytes.
-use Rattle.jzon_base.proofs.Common.{◌≡◌, ◌∙◌, ℕ, zero, suc, ◌+◌, ◌<◌, ◌≤◌, Bool, true, false, cond, ◌==◌, List, [], ◌∷◌, ◌++◌}
+use Rattle.jzon_base.proofs.Common.{◌≡◌, ◌∙◌, ℕ, zero, suc, ◌+◌, ◌-◌, ◌<◌, ◌≤◌, Bool, true, false, cond, ◌==◌, List, [], ◌∷◌, ◌++◌}
 use Rattle.jzon_base.proofs.Common.{length, take, drop, get_or, refl, sym, ap, subst, arith, eqb-true, not, chars}
 use Rattle.jzon_base.proofs.Common.{IsUtf8, is_ascii_digit, IsCharBoundary, All, take_while, prefix_len, ne_eqb}
 use Rattle.jzon_base.proofs.Common.{nat_tests, drop-drop, length-drop, All-nil, All-cons, prefix_len-le-length}
@@ -7,15 +7,22 @@ use Rattle.jzon_base.proofs.Common.{IsUtf8-drop, IsCharBoundary-from_drop, IsCha
 use Rattle.std.proofs.lemmas.List.Folds.{length-prefix_len}
 use Rattle.jzon_base.specs.Decimal.{signed}
 use Rattle.jzon_base.specs.Digits.{IsDigit, digits_number, number_read}
+use Rattle.jzon_base.specs.LostDigits.{leaves_range, StaysInRange, IsFirstOutOfRange}
 use Rattle.jzon_tree.specs.Value as value
 use Rattle.jzon.specs.Reading.{Reading}
-use Rattle.jzon.specs.Grammar.{Sign, plus, minus, AreDigits, IsDigits}
+use Rattle.jzon.specs.Grammar.{Sign, unsigned, plus, minus, AreDigits, IsDigits}
+use Rattle.jzon.specs.Spelling.{inexact}
 use Rattle.jzon.specs.Meaning as meaning
 use Rattle.jzon.specs.Private.Classes.{after_letter, signed_exponent, plus_char, minus_char}
-use Rattle.jzon.specs.Private.Machine.{Frames, numeral, after_value, outcome, from, fault_here}
+use Rattle.jzon.specs.Private.Machine.{Frames, numeral, after_value, Outcome, refused, outcome, from, fault_here, Reports}
+use Rattle.jzon.specs.Fault.{limit}
+use Rattle.jzon.specs.declared.fault.Stop.TheVariants.{Inexact}
+use Rattle.jzon.proofs.Texts.FaultOffsets.{reports_inexact}
 use Rattle.jzon.proofs.Texts.ClassesOfCharacters.{class-char}
 use Rattle.jzon.proofs.Texts.AsciiRuns.{chars-ascii, IsUtf8-past_ascii, stops_run}
 use Rattle.jzon.proofs.Texts.StepsByByte.{digit_is_ascii, next_is, byte_there}
+use Rattle.jzon.proofs.Numbers.NumberLimits.{exponent_unmarked, exponent_marked}
+use Rattle.jzon.proofs.Numbers.DigitRuns.{refuse_unsigned_exponent, refuse_signed_exponent}
 use Rattle.jzon.proofs.Numbers.NumeralOutcomes.{NextFails, stop_after_letter, stop_signed, unsigned_to_end, signed_to_end}
 
 -- ---- one byte
@@ -119,19 +126,32 @@ digits_stand bs i ds u at e =
           );
     }
 
+-- an exact reading stops at the digit at position n of these digits, which are at offset i
+pub reports_lost : (bs : List ℕ) (i n : ℕ) (ds rest : List ℕ) (o : Outcome) → IsUtf8 bs
+    → IsCharBoundary bs (i + n) × (chars (drop (i + n) bs) ≡ drop n ds ++ rest)
+    → o ≡ refused (limit inexact) (drop n ds ++ rest) → Reports bs (Inexact (i + n)) o
+reports_lost bs i n ds rest o u h e =
+    reports_inexact bs (i + n) o u h.0 (e ∙ ap (λ cs. refused (limit inexact) cs) (sym h.1))
+
 -- ---- exponents
 
--- After the letter of an exponent its digits xs are read up to offset e, with this sign.
+-- After the letter of an exponent its digits xs are read up to offset e, with this sign. An exact reading stops at the
+-- first that clamps the exponent.
 pub record ReadsExponent (bs : List ℕ) (i : ℕ) (positive : Bool) (xs : List ℕ) (e : ℕ) : Type 0 where
   pub after : i ≤ e
+  pub room : length xs ≤ e
   pub boundary : IsCharBoundary bs e
   pub all : All IsDigit xs
   pub number : 0 < length xs → (r : Reading) (fs : Frames) (negative : Bool) (ws ds : List ℕ) (l : ℕ)
+      → (r.exact ≡ true → StaysInRange ws ds (signed positive) xs)
       → from r bs (numeral fs negative (after_letter ws ds l)) i
       ≡ from r bs
       (after_value fs (value.number (number_read (not negative) ws ds (signed positive (digits_number xs))))) e
   pub missing : length xs ≡ 0 → (r : Reading) (fs : Frames) (negative : Bool) (ws ds : List ℕ) (l : ℕ)
       → from r bs (numeral fs negative (after_letter ws ds l)) i ≡ fault_here (chars (drop e bs))
+  pub leaves : (n : ℕ) (r : Reading) (fs : Frames) (negative : Bool) (ws ds : List ℕ) (l : ℕ) → r.exact ≡ true
+      → IsFirstOutOfRange ws ds (signed positive) xs n
+      → Reports bs (Inexact (e - length xs + n)) (from r bs (numeral fs negative (after_letter ws ds l)) i)
 
 pub some_digits : (ds : List ℕ) → AreDigits ds → 0 < length ds → IsDigits ds
 some_digits [] ok some = absurd (omega arith)
@@ -149,11 +169,13 @@ reads_unsigned bs i xs u at no_minus no_plus e =
     let k = digits_stand bs i xs u at e in
     record {
       after = omega arith;
+      room = omega arith;
       boundary = k.boundary;
       all = k.all;
-      number = λ some r fs negative ws ds l. ap (λ cs. outcome r cs (numeral fs negative (after_letter ws ds l))) k.split
+      number = λ some r fs negative ws ds l stays.
+          ap (λ cs. outcome r cs (numeral fs negative (after_letter ws ds l))) k.split
           ∙ unsigned_to_end r fs negative ws ds l xs (chars (drop (i + length xs) bs)) (some_digits xs k.digits some)
-          k.next;
+          (exponent_unmarked r ws ds unsigned xs stays) k.next;
       missing = λ none r fs negative ws ds l.
           let here : chars (drop i bs) ≡ chars (drop (i + length xs) bs) = k.split
           ∙ no_digits xs (chars (drop (i + length xs) bs)) none in
@@ -163,6 +185,12 @@ reads_unsigned bs i xs u at no_minus no_plus e =
           (next_fails (λ c. c == 45) bs i (λ c e. omega (arith, eqb-true c 45 e)) u at
           (λ lt. ne_eqb (get_or bs i 0) 45 (λ same. no_minus (lt, same))))
           ∙ ap fault_here here;
+      leaves = λ n r fs negative ws ds l exact out.
+          let at : i + length xs - length xs + n ≡ i + n = omega arith in
+          rw at (reports_lost bs i n xs (chars (drop (i + length xs) bs)) _ u (k.from n (omega (arith, out.0)))
+          (ap (λ cs. outcome r cs (numeral fs negative (after_letter ws ds l))) k.split
+          ∙ refuse_unsigned_exponent r fs negative inexact ws ds l xs (chars (drop (i + length xs) bs)) n
+          (some_digits xs k.digits (omega (arith, out.0))) (exponent_marked r ws ds unsigned xs n exact out)));
     }
 
 -- after a sign at offset i
@@ -187,16 +215,34 @@ reads_signed bs i xs s b positive u at lt here ascii step sign e =
     ∙ step ws ds l (xs ++ rest) r fs negative in
     record {
       after = omega arith;
+      room = omega arith;
       boundary = k.boundary;
       all = k.all;
-      number = λ some r fs negative ws ds l. to_sign r fs negative ws ds l
-          ∙ signed_to_end r fs negative ws ds l s xs rest (some_digits xs k.digits some) k.next
+      number = λ some r fs negative ws ds l stays. to_sign r fs negative ws ds l
+          ∙ signed_to_end r fs negative ws ds l s xs rest (some_digits xs k.digits some)
+          (exponent_unmarked r ws ds s xs (λ exact n below. same ws ds (digits_number (take (suc n) xs))
+          ∙ stays exact n below)) k.next
           ∙ ap (λ z. outcome r rest (after_value fs (value.number (number_read (not negative) ws ds z))))
           (sym (sign (digits_number xs)));
       missing = λ none r fs negative ws ds l. to_sign r fs negative ws ds l
           ∙ ap (λ cs. outcome r cs (numeral fs negative (signed_exponent ws ds l s))) (no_digits xs rest none)
           ∙ stop_signed r fs negative ws ds l s rest k.next;
+      leaves = λ n r fs negative ws ds l exact out.
+          let at : i + 1 + length xs - length xs + n ≡ i + 1 + n = omega arith in
+          rw at (reports_lost bs (i + 1) n xs rest _ u (k.from n (omega (arith, out.0)))
+          (to_sign r fs negative ws ds l
+          ∙ refuse_signed_exponent r fs negative inexact ws ds l s xs rest n
+          (some_digits xs k.digits (omega (arith, out.0)))
+          (exponent_marked r ws ds s xs n exact (
+            out.0,
+            same ws ds (digits_number (take (suc n) xs)) ∙ out.1,
+            λ j below. same ws ds (digits_number (take (suc j) xs)) ∙ out.2 j below,
+          ))));
     }
+  where
+    same : (ws ds : List ℕ) (n : ℕ)
+        → leaves_range ws ds (meaning.signed_exponent s n) ≡ leaves_range ws ds (signed positive n)
+    same ws ds n = ap (leaves_range ws ds) (sym (sign n))
 
 pub reads_minus : (bs : List ℕ) (i : ℕ) (xs : List ℕ) → IsUtf8 bs → IsCharBoundary bs i → i < length bs
     → get_or bs i 0 ≡ 45

@@ -78,7 +78,7 @@ module _ (r : Reading) (v : Value) (fs : Frames) (Beh : Value → List ℕ → T
   module _ (c : ℕ) (cs : List ℕ)
       (ih : (b : Bool) (y : NumberState) → Goes r v cs (numeral fs b y) → InNumeral b y cs) where
     abbrev C : Class → Bool → NumberState → Type 0
-    C k negative x = On (move_numeral x k fs negative c) (λ p. Goes r v cs p)
+    C k negative x = On (move_numeral r x k fs negative c) (λ p. Goes r v cs p)
 
     abbrev After : Class → Type 0
     After k = (x : Value) → On (move_after_value k fs x) (λ p. Goes r v cs p) → Beh x (c ∷ cs)

@@ -116,12 +116,12 @@ object_lawful h ps all distinct =
 
 -- What holds of a value that is read inside `depth` non-empty containers, with the mark at its first character and the
 -- cells after it.
-record NodeHeld (r : Reading) (depth : ℕ) (m : Option Breach) (k : List Cell) (v : Value) : Type 0 where
+pub record NodeHeld (r : Reading) (depth : ℕ) (m : Option Breach) (k : List Cell) (v : Value) : Type 0 where
   lawful : IsValue v
   no_nan : HasNoNan v
   few : nest v ≤ r.depth - depth
   mark : m ≡ None
-  rest : HaveNoMarks k
+  pub rest : HaveNoMarks k
 
 held : {r : Reading} {depth : ℕ} {m : Option Breach} {k : List Cell} {v : Value} → IsValue v → HasNoNan v
     → nest v ≤ r.depth - depth → m ≡ None → HaveNoMarks k → NodeHeld r depth m k v
@@ -149,13 +149,13 @@ deeper : (a depth room : ℕ) → a ≤ suc (room - suc depth) → depth < room 
 deeper a depth room h l = omega arith
 
 mutual
-  node_held : (r : Reading) (n : Node) (depth : ℕ) (m : Option Breach) (k : List Cell) → IsNode r n
+  pub node_held : (r : Reading) (n : Node) (depth : ℕ) (m : Option Breach) (k : List Cell) → IsNode r n
       → HaveNoMarks (node_cells r n depth m k) → NodeHeld r depth m k (meaning n)
   node_held r Node.null depth m k ok h = held tt tt (omega arith) h.0 (plain_rest (codes "ull") k h.1)
   node_held r (Node.boolean true) depth m k ok h = held tt tt (omega arith) h.0 (plain_rest (codes "rue") k h.1)
   node_held r (Node.boolean false) depth m k ok h = held tt tt (omega arith) h.0 (plain_rest (codes "alse") k h.1)
   node_held r (Node.number n) depth m k ok h =
-      let first = signed_first n.negative n m k ok.0 h in held (number_in_range n) tt (omega arith) first.0 first.1
+      let first = signed_first r n.negative n m k ok.0 h in held (number_in_range n) tt (omega arith) first.0 first.1
   node_held r (Node.string is) depth m k ok h =
       held (IsValue-text (bytes_of is) (bytes_utf8 is ok)) tt (omega arith) h.0
       (items_rest is (cell 34 None ∷ k) h.1).1

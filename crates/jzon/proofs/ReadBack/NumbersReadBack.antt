@@ -46,10 +46,10 @@ spelled_short : (s : Bool) (m : ℕ) (e : ℤ) (n : Numeral) → m < 2 ^ 64 → 
 spelled_short s m e n fits small h = omega (arith, ap length h.spelled, length-number s m e fits small)
 
 -- it has no breach
-pub printed-plain : (s : Bool) (m : ℕ) (e : ℤ) (n : Numeral) (k : List Cell) → m < 2 ^ 64 → FitsSigned w16 e
-    → IsPrintedAs s m e n → numeral_cells n None k ≡ plain (number_text s m e) k
-printed-plain s m e n k fits small h =
-    numeral-plain n k (omega (arith, spelled_short s m e n fits small h)) ∙ ap (λ t. plain t k) h.spelled
+pub printed-plain : (r : Reading) (s : Bool) (m : ℕ) (e : ℤ) (n : Numeral) (k : List Cell) → m < 2 ^ 64 → FitsSigned w16 e
+    → IsPrintedAs s m e n → numeral_cells r n None k ≡ plain (number_text s m e) k
+printed-plain r s m e n k fits small h =
+    numeral-plain r n k (omega (arith, spelled_short s m e n fits small h)) h.loses_nothing ∙ ap (λ t. plain t k) h.spelled
 
 pub IsAscii-number : (s : Bool) (m : ℕ) (e : ℤ) → m < 2 ^ 64 → FitsSigned w16 e → IsAscii (number_text s m e)
 IsAscii-number s m e fits small = IsAscii-written (parts s m e) (fits, small)
@@ -61,7 +61,7 @@ printed_parses s m e n fits small h r =
     (IsAscii-number s m e fits small) in
     subst (λ t. Parses r t (alone (Node.number n))) (sym text)
     (parses_plain r (number_text s m e) (alone (Node.number n)) (tt, h.in_grammar, tt)
-    (printed-plain s m e n [] fits small h))
+    (printed-plain r s m e n [] fits small h))
 
 pub number_read_back : NumberText
 number_read_back s m e fits small =

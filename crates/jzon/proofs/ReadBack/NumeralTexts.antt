@@ -1,11 +1,14 @@
 -- The text of a number of the grammar that has few digits.
 use Rattle.jzon_base.proofs.Common.{◌≡◌, ℕ, ◌+◌, ◌<◌, ◌≤◌, List, [], ◌∷◌, ◌++◌, length, Bool, true, false, codes}
-use Rattle.jzon_base.proofs.Common.{Option, Some, None, refl, ap, arith, length-append}
+use Rattle.jzon_base.proofs.Common.{Option, Some, None, refl, sym, ap, ◌∙◌, arith, length-append, ⊤}
+use Rattle.jzon_base.specs.LostDigits.{LosesNone, StaysInRange}
 use Rattle.jzon_base.proofs.Numbers.DigitPrefixes.{kept_len_is_longest}
 use Rattle.jzon.specs.Grammar.{Sign, unsigned, plus, minus, Exponent, Numeral}
-use Rattle.jzon.specs.Spelling.{Cell, cell, plain, digits_cells, drops_too_many, keeps_too_many, fraction_cells}
-use Rattle.jzon.specs.Spelling.{exponent_cells, sign_cells, whole_cells, magnitude_cells, numeral_cells}
-use Rattle.jzon.proofs.Numbers.NumberLimits.{AreUnmarked, whole_unmarked, fraction_unmarked}
+use Rattle.jzon.specs.Reading.{Reading}
+use Rattle.jzon.specs.Meaning.{signed_exponent}
+use Rattle.jzon.specs.Spelling.{Breach, Cell, cell, plain, digits_cells, whole_breach, fraction_breach, fraction_cells}
+use Rattle.jzon.specs.Spelling.{exponent_breach, exponent_cells, sign_cells, whole_cells, magnitude_cells, numeral_cells}
+use Rattle.jzon.proofs.Numbers.NumberLimits.{AreUnmarked, up_to, whole_unmarked, fraction_unmarked, exponent_unmarked}
 use Rattle.jzon.proofs.Texts.Cells.{plain-append}
 
 -- ---- the text
@@ -34,53 +37,75 @@ numeral_spelled n = minus_spelled n.negative ++ magnitude_spelled n.whole n.frac
 
 -- ---- it has no breach
 
-digits-plain : (too_many : List ℕ → Bool) (prefix ds : List ℕ) (k : List Cell) → AreUnmarked too_many prefix ds
-    → digits_cells too_many prefix ds k ≡ plain ds k
-digits-plain too_many prefix [] k h = refl
-digits-plain too_many prefix (d ∷ ds) k h = rw (h.0, digits-plain too_many (d ∷ prefix) ds k h.1) refl
+-- No digit but 0 is dropped, and the exponent isn't clamped.
+abbrev pub StaysExponent : List ℕ → List ℕ → Option Exponent → Type 0
+StaysExponent whole fraction None = ⊤
+StaysExponent whole fraction (Some e) = StaysInRange whole fraction (signed_exponent e.sign) e.digits
 
-whole-plain : (ws : List ℕ) (k : List Cell) → length ws < 32768 → whole_cells ws None k ≡ plain ws k
-whole-plain [] k h = refl
-whole-plain (d ∷ ds) k h = ap (λ q. cell d None ∷ q) (digits-plain drops_too_many (d ∷ []) ds k
-    (whole_unmarked (d ∷ []) ds [] (omega arith)))
+abbrev pub LosesNothing : Numeral → Type 0
+LosesNothing n = LosesNone (n.whole ++ n.fraction) × StaysExponent n.whole n.fraction n.exponent
 
-fraction-plain : (ws fs : List ℕ) (k : List Cell) → length fs < 32769
-    → fraction_cells ws fs k ≡ plain (fraction_spelled fs) k
-fraction-plain ws [] k h = refl
-fraction-plain ws (d ∷ ds) k h =
-    let within = (kept_len_is_longest (ws ++ d ∷ ds)).within in
-    ap (λ q. cell 46 None ∷ q)
-    (digits-plain (keeps_too_many ws) [] (d ∷ ds) k (fraction_unmarked ws [] (d ∷ ds)
-    (omega (arith, within, length-append ws (d ∷ ds)))))
+digits-plain : (breach : List ℕ → Option Breach) (prefix ds : List ℕ) (k : List Cell) → AreUnmarked breach prefix ds
+    → digits_cells breach prefix ds k ≡ plain ds k
+digits-plain breach prefix [] k h = refl
+digits-plain breach prefix (d ∷ ds) k h = rw (h.0, digits-plain breach (d ∷ prefix) ds k h.1) refl
 
-sign-plain : (s : Sign) (k : List Cell) → sign_cells s k ≡ plain (sign_spelled s) k
-sign-plain unsigned k = refl
-sign-plain _ k = refl
+module _ (r : Reading) where
+  whole-plain : (ws fs : List ℕ) (k : List Cell) → length ws < 32768 → LosesNone (ws ++ fs)
+      → whole_cells r ws None k ≡ plain ws k
+  whole-plain [] fs k h none = refl
+  whole-plain (d ∷ ds) fs k h none = ap (λ q. cell d None ∷ q) (digits-plain (whole_breach r) (d ∷ []) ds k
+      (whole_unmarked r (d ∷ []) ds fs (omega arith) (up_to r (d ∷ ds ++ fs) (length (d ∷ ds)) (λ e. none))))
 
-exponent-plain : (e : Option Exponent) (k : List Cell) → exponent_cells e k ≡ plain (exponent_spelled e) k
-exponent-plain None k = refl
-exponent-plain (Some e) k = simp (sign-plain, plain-append)
+  fraction-plain : (ws fs : List ℕ) (k : List Cell) → length fs < 32769 → LosesNone (ws ++ fs)
+      → fraction_cells r ws fs k ≡ plain (fraction_spelled fs) k
+  fraction-plain ws [] k h none = refl
+  fraction-plain ws (d ∷ ds) k h none =
+      let within = (kept_len_is_longest (ws ++ d ∷ ds)).within in
+      ap (λ q. cell 46 None ∷ q)
+      (digits-plain (fraction_breach r ws) [] (d ∷ ds) k (fraction_unmarked r ws (d ∷ ds)
+      (omega (arith, within, length-append ws (d ∷ ds))) (λ e. none)))
 
-magnitude-plain : (n : Numeral) (k : List Cell) → length n.whole < 32768 → length n.fraction < 32769
-    → magnitude_cells n None k ≡ plain (magnitude_spelled n.whole n.fraction n.exponent) k
-magnitude-plain n k few fewer =
-    simp (whole-plain, fraction-plain, exponent-plain, plain-append)
+  sign-plain : (s : Sign) (k : List Cell) → sign_cells s k ≡ plain (sign_spelled s) k
+  sign-plain unsigned k = refl
+  sign-plain _ k = refl
+
+  exponent-plain : (ws fs : List ℕ) (x : Option Exponent) (k : List Cell) → StaysExponent ws fs x
+      → exponent_cells r ws fs x k ≡ plain (exponent_spelled x) k
+  exponent-plain ws fs None k stays = refl
+  exponent-plain ws fs (Some e) k stays =
+      let digits : digits_cells (exponent_breach r ws fs e.sign) [] e.digits k ≡ plain e.digits k =
+      digits-plain (exponent_breach r ws fs e.sign) [] e.digits k
+      (exponent_unmarked r ws fs e.sign e.digits (λ exact. stays)) in
+      ap (λ q. cell e.letter None ∷ q) (sign-plain e.sign _ ∙ ap (plain (sign_spelled e.sign)) digits
+      ∙ sym (plain-append (sign_spelled e.sign) e.digits k))
+
+  magnitude-plain : (n : Numeral) (k : List Cell) → length n.whole < 32768 → length n.fraction < 32769
+      → LosesNothing n
+      → magnitude_cells r n None k ≡ plain (magnitude_spelled n.whole n.fraction n.exponent) k
+  magnitude-plain n k few fewer none =
+      whole-plain n.whole n.fraction _ few none.0
+      ∙ ap (plain n.whole) (fraction-plain n.whole n.fraction _ fewer none.0
+      ∙ ap (plain (fraction_spelled n.fraction)) (exponent-plain n.whole n.fraction n.exponent k none.1)
+      ∙ sym (plain-append (fraction_spelled n.fraction) (exponent_spelled n.exponent) k))
+      ∙ sym (plain-append n.whole (fraction_spelled n.fraction ++ exponent_spelled n.exponent) k)
 
 length-fraction_spelled : (fs : List ℕ) → length fs ≤ length (fraction_spelled fs)
 length-fraction_spelled [] = omega arith
 length-fraction_spelled (d ∷ ds) = omega arith
 
-pub numeral-plain : (n : Numeral) (k : List Cell) → length (numeral_spelled n) < 32768
-    → numeral_cells n None k ≡ plain (numeral_spelled n) k
-numeral-plain n k h = by_sign n.negative refl
+pub numeral-plain : (r : Reading) (n : Numeral) (k : List Cell) → length (numeral_spelled n) < 32768
+    → LosesNothing n → numeral_cells r n None k ≡ plain (numeral_spelled n) k
+numeral-plain r n k h none = by_sign n.negative refl
   where
     size : length (minus_spelled n.negative) + (length n.whole +
         (length (fraction_spelled n.fraction) + length (exponent_spelled n.exponent))) < 32768
     size = simp length-append at h
 
-    magnitude : magnitude_cells n None k ≡ plain (magnitude_spelled n.whole n.fraction n.exponent) k
-    magnitude = magnitude-plain n k (omega (arith, size)) (omega (arith, size, length-fraction_spelled n.fraction))
+    magnitude : magnitude_cells r n None k ≡ plain (magnitude_spelled n.whole n.fraction n.exponent) k
+    magnitude = magnitude-plain r n k (omega (arith, size))
+        (omega (arith, size, length-fraction_spelled n.fraction)) none
 
-    by_sign : (b : Bool) → n.negative ≡ b → numeral_cells n None k ≡ plain (numeral_spelled n) k
+    by_sign : (b : Bool) → n.negative ≡ b → numeral_cells r n None k ≡ plain (numeral_spelled n) k
     by_sign true e = rw e (ap (λ q. cell 45 None ∷ q) magnitude)
     by_sign false e = rw e magnitude

@@ -2,7 +2,7 @@
 use Rattle.jzon_base.proofs.Common.{◌≡◌, ℕ, suc, zero, ℤ, pos, negsuc, ◌+ℤ◌, ◌-ℤ◌, ◌+◌, ◌-◌, ◌^◌, ◌≤◌, ◌<◌, Option}
 use Rattle.jzon_base.proofs.Common.{Some, None, List, [], ◌∷◌, ◌++◌, length, take, drop, replicate, Bool, true, false}
 use Rattle.jzon_base.proofs.Common.{refl, sym, ap, ◌∙◌, arith, decimal, codes, FitsSigned, get_or, length-append}
-use Rattle.jzon_base.proofs.Common.{append_assoc, append-nil, inl, inr, w16, fold, ints, cases_eq, fold-append}
+use Rattle.jzon_base.proofs.Common.{append_assoc, append-nil, inl, inr, w16, fold, ints, cases_eq, fold-append, lit<}
 use Rattle.jzon_base.proofs.Common.{length-replicate}
 use Rattle.std.proofs.Common.{length-take, length-drop}
 use Rattle.std.proofs.lemmas.List.{take-append-drop}
@@ -17,7 +17,7 @@ use Rattle.jzon.proofs.ReadBack.NumeralTexts.{numeral_spelled, fraction_spelled,
 use Rattle.jzon.proofs.ReadBack.PrintedParts.{HasNumeral, exponent, numeral, IsWholePart, exponent_test, all-zeros}
 use Rattle.jzon.proofs.ReadBack.PrintedParts.{number_decimal, decimal_digits, IsMantissa, mantissa, if-le, if-not_le}
 use Rattle.jzon.proofs.ReadBack.PrintedParts.{digits-append, digits-take, digits-drop, if-eq, if-ne, means_as}
-use Rattle.jzon.proofs.ReadBack.PrintedParts.{exact_parts, means_exactly}
+use Rattle.jzon.proofs.ReadBack.PrintedParts.{exact_parts, means_exactly, all_kept}
 
 -- ---- digits alone
 
@@ -27,7 +27,7 @@ whole_all m ds h = (h.digits, h.some, λ z. absurd (omega (arith, h.first)))
 pub digits_alone : (s : Bool) (m : ℕ) → 0 < m → m < 2 ^ 64 → HasNumeral s m (pos 0)
 digits_alone s m above fits =
     let is : IsMantissa m (decimal m) = mantissa m above fits in
-    means_exactly s m (pos 0) (decimal m) [] None above fits (omega (arith, ints)) (whole_all m (decimal m) is) tt tt
+    means_exactly s m (pos 0) (decimal m) [] None above fits (omega (arith, ints)) (whole_all m (decimal m) is) tt (omega arith) tt
     (append-nil (decimal m ++ []) ∙ append-nil (decimal m)) (ap digits_number (append-nil (decimal m)) ∙ is.number) refl
 
 -- ---- a mantissa 0
@@ -38,7 +38,8 @@ zero_spelled false e = refl
 
 pub zero_alone : (s : Bool) (e : ℤ) → HasNumeral s 0 e
 zero_alone s e =
-    means_as s 0 e (numeral s (48 ∷ []) [] None) (parts s 0 (pos 0)) (refl, tt, tt) (zero_spelled s e)
+    means_as s 0 e (numeral s (48 ∷ []) [] None) (parts s 0 (pos 0)) (refl, tt, tt)
+    (all_kept (48 ∷ []) (lit< tt), tt) (zero_spelled s e)
     (exact_parts s (48 ∷ []) [] None 0 (pos 0) refl (omega arith) refl (omega (arith, ints))) refl refl
 
 -- ---- a point among the digits
@@ -67,7 +68,8 @@ pointed s m k above fits small near inside =
     let n : ℕ = length (decimal m) - (k + 1) in
     let size : length (drop n (decimal m)) ≡ k + 1 = omega (arith, length-drop n (decimal m)) in
     means_exactly s m (negsuc k) (take n (decimal m)) (drop n (decimal m)) None above fits small
-    (whole_prefix m n (decimal m) is (omega arith)) (digits-drop n (decimal m) is.digits) tt
+    (whole_prefix m n (decimal m) is (omega arith)) (digits-drop n (decimal m) is.digits)
+    (omega (arith, size)) tt
     (append-nil _ ∙ ap (λ t. take n (decimal m) ++ t) (fraction-is (drop n (decimal m)) (omega (arith, size)))
     ∙ sym (append_assoc (take n (decimal m)) (codes ".") (drop n (decimal m)))
     ∙ sym (if-le (k + 1) 17 _ _ near ∙ if-lt (k + 1) (length (decimal m)) _ _ inside))
@@ -89,7 +91,7 @@ after_zeros s m k above fits small near out =
     omega (arith, length-append (replicate n 48) (decimal m), length-replicate {A = ℕ} n 48) in
     means_exactly s m (negsuc k) (48 ∷ []) f None above fits small
     (((omega arith, omega arith), tt), omega arith, λ _. refl)
-    (digits-append (replicate n 48) (decimal m) (all-zeros n) is.digits) tt
+    (digits-append (replicate n 48) (decimal m) (all-zeros n) is.digits) (omega (arith, size)) tt
     (append-nil _ ∙ ap (λ t. 48 ∷ t) (fraction-is f (omega (arith, size)))
     ∙ sym (if-le (k + 1) 17 _ _ near ∙ if-ge (k + 1) (length (decimal m)) _ _ out))
     (fold-append add_digit 0 (replicate n 48) (decimal m) ∙ ap (λ v. fold add_digit v (decimal m)) (zeros_number n)
@@ -110,7 +112,8 @@ scientific : (s : Bool) (m : ℕ) (e : ℤ) (x : Option Exponent) → 0 < m → 
 scientific s m e x above fits small power text sum =
     let is : IsMantissa m (decimal m) = mantissa m above fits in
     means_exactly s m e (take 1 (decimal m)) (drop 1 (decimal m)) x above fits small
-    (whole_prefix m 1 (decimal m) is (omega arith)) (digits-drop 1 (decimal m) is.digits) power
+    (whole_prefix m 1 (decimal m) is (omega arith)) (digits-drop 1 (decimal m) is.digits)
+    (omega (arith, length-drop 1 (decimal m), is.few)) power
     (ap (λ t. t ++ exponent_spelled x) (first_spelled (decimal m) is.some) ∙ text)
     (ap digits_number (take-append-drop 1 (decimal m)) ∙ is.number) (rw (length-drop 1 (decimal m)) sum)
 

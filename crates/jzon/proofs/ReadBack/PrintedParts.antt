@@ -1,5 +1,5 @@
 -- Numbers of the grammar that have the text of given parts, and mean the same parts.
-use Rattle.jzon_base.proofs.Common.{◌≡◌, ℕ, suc, ℤ, pos, ◌+ℤ◌, ◌-ℤ◌, ◌^◌, ◌&&◌, ◌≤◌, ◌<◌, ◌==◌, Option, Some, List, []}
+use Rattle.jzon_base.proofs.Common.{◌≡◌, ℕ, suc, ℤ, pos, ◌+ℤ◌, ◌-ℤ◌, ◌^◌, ◌&&◌, ◌≤◌, ◌<◌, ◌==◌, Option, Some, None, List, []}
 use Rattle.jzon_base.proofs.Common.{◌∷◌, ◌++◌, length, take, drop, replicate, Bool, true, false, not, refl, sym, ap}
 use Rattle.jzon_base.proofs.Common.{◌∙◌, arith, rules, codes, nat_le, if◌then◌else◌, FitsSigned, get_or, length-append}
 use Rattle.jzon_base.proofs.Common.{append_assoc, decimal, zero, not-not, w16, is_ascii_digit, fold, AllByRecursion}
@@ -13,11 +13,14 @@ use Rattle.jzon_base.specs.Digits.{read_exponent, clamp}
 use Rattle.jzon_base.specs.Decimal.{Decimal, parts, same}
 use Rattle.jzon_base.specs.NumberText.{sign_text, magnitude_text, number_text, decimal_text}
 use Rattle.jzon_base.specs.Private.Same.{same_equiv}
-use Rattle.jzon_base.proofs.Numbers.DigitPrefixes.{kept_all}
-use Rattle.jzon.specs.Grammar.{Sign, Exponent, Numeral, AreDigits}
+use Rattle.std.proofs.lemmas.Cmp.{int_eq_equiv}
+use Rattle.jzon_base.specs.LostDigits.{LosesNone, is_clamped, leaves_range, own_power}
+use Rattle.jzon_base.proofs.Numbers.DigitPrefixes.{kept_all, fold-take-le}
+use Rattle.jzon.specs.Grammar.{Sign, unsigned, plus, minus, Exponent, Numeral, AreDigits}
 use Rattle.jzon.specs.Grammar as grammar
-use Rattle.jzon.specs.Meaning.{written_exponent, number_of}
+use Rattle.jzon.specs.Meaning.{signed_exponent, written_exponent, number_of}
 use Rattle.jzon.proofs.ReadBack.NumeralTexts.{numeral_spelled, minus_spelled, fraction_spelled, exponent_spelled}
+use Rattle.jzon.proofs.ReadBack.NumeralTexts.{LosesNothing, StaysExponent}
 
 -- The number has the text of these parts. It means the same parts, and what it means prints as the same text.
 pub record IsPrintedAs (s : Bool) (m : ℕ) (e : ℤ) (n : Numeral) : Type 0 where
@@ -25,6 +28,7 @@ pub record IsPrintedAs (s : Bool) (m : ℕ) (e : ℤ) (n : Numeral) : Type 0 whe
   pub spelled : numeral_spelled n ≡ number_text s m e
   pub alike : same (number_of n) (parts s m e) ≡ true
   pub prints : decimal_text (number_of n) ≡ number_text s m e
+  pub loses_nothing : LosesNothing n
 
 abbrev pub HasNumeral : Bool → ℕ → ℤ → Type 0
 HasNumeral s m e = (n : Numeral) × IsPrintedAs s m e n
@@ -132,14 +136,64 @@ number_text-above s m e above = ap (λ t. sign_text s ++ t) (if-ne m 0 (codes "0
 
 -- a number that means d
 pub means_as : (s : Bool) (m : ℕ) (e : ℤ) (n : Numeral) (d : Decimal) → grammar.IsNumeral n
-    → numeral_spelled n ≡ number_text s m e → number_of n ≡ d
+    → LosesNothing n → numeral_spelled n ≡ number_text s m e → number_of n ≡ d
     → same d (parts s m e) ≡ true → decimal_text d ≡ number_text s m e → HasNumeral s m e
-means_as s m e n d ok spelled means alike prints =
-    let same_value = ap (λ x. same x (parts s m e)) means ∙ alike in
-    (n, record { in_grammar = ok; spelled = spelled; alike = same_value; prints = ap decimal_text means ∙ prints })
+means_as s m e n d ok none spelled means alike prints =
+    let same_value = ap (λ x. same x (parts s m e)) means ∙ alike in (
+      n,
+      record {
+        in_grammar = ok;
+        spelled = spelled;
+        alike = same_value;
+        prints = ap decimal_text means ∙ prints;
+        loses_nothing = none;
+      },
+    )
 
 clamp_small : (e : ℤ) → FitsSigned w16 e → clamp e ≡ e
 clamp_small e fits = omega (arith, ints, clamps)
+
+-- ---- nothing is lost
+
+-- if all digits fit, none is dropped
+pub all_kept : (ds : List ℕ) → digits_number ds < 2 ^ 64 → LosesNone ds
+all_kept ds fits i past below within = absurd (omega (arith, past, kept_all ds fits))
+
+and_false : (b : Bool) → (b && false) ≡ false
+and_false true = refl
+and_false false = refl
+
+pub in_range : (ws fs : List ℕ) (z : ℤ) → clamp (own_power ws fs +ℤ z) ≡ own_power ws fs +ℤ z
+    → leaves_range ws fs z ≡ false
+unfolding leaves_range is_clamped
+in_range ws fs z h = rw (h, int_eq_equiv.refl (own_power ws fs +ℤ z)) (and_false _)
+
+-- if all digits of the exponent leave it in range, each prefix of them does
+on_the_way : (s : Sign) (p : ℤ) (n m : ℕ) → FitsSigned w16 p → FitsSigned w16 (p +ℤ signed_exponent s m) → n ≤ m
+    → clamp (p +ℤ signed_exponent s n) ≡ p +ℤ signed_exponent s n
+on_the_way unsigned p n m first last le = omega (arith, ints, clamps, first, last)
+on_the_way plus p n m first last le = omega (arith, ints, clamps, first, last)
+on_the_way minus p n m first last le = omega (arith, ints, clamps, first, last)
+
+pub exponent_stays : (ws fs : List ℕ) (x : Option Exponent) (e : ℤ) → digits_number (ws ++ fs) < 2 ^ 64
+    → length fs ≤ 20 → (pos 0 -ℤ pos (length fs)) +ℤ written_exponent x ≡ e → FitsSigned w16 e
+    → StaysExponent ws fs x
+exponent_stays ws fs None e fits few sum small = tt
+exponent_stays ws fs (Some x) e fits few sum small = λ i within.
+    let all : kept_len (ws ++ fs) ≡ length (ws ++ fs) = kept_all (ws ++ fs) fits in
+    let none : dropped ws fs ≡ 0 = omega (arith, all, length-append ws fs) in
+    let some : kept_fraction ws fs ≡ length fs = omega (arith, all, length-append ws fs) in
+    let prefix : ℕ = digits_number (take (suc i) x.digits) in
+    let whole : digits_number (take (length x.digits) x.digits) ≡ digits_number x.digits =
+    ap digits_number (take_all (length x.digits) x.digits (omega arith)) in
+    let le : prefix ≤ digits_number x.digits =
+    omega (arith, whole, fold-take-le 0 x.digits (suc i) (length x.digits) (omega arith)) in
+    let first : FitsSigned w16 (pos 0 -ℤ pos (length fs)) = omega (arith, ints) in
+    let last : FitsSigned w16 ((pos 0 -ℤ pos (length fs)) +ℤ signed_exponent x.sign (digits_number x.digits)) =
+    rw sum small in
+    let power : (pos (dropped ws fs) -ℤ pos (kept_fraction ws fs)) ≡ (pos 0 -ℤ pos (length fs)) = rw (none, some) refl in
+    in_range ws fs (signed_exponent x.sign prefix)
+    (rw power (on_the_way x.sign (pos 0 -ℤ pos (length fs)) prefix (digits_number x.digits) first last le))
 
 -- the parts, if all digits fit and the powers of ten add up
 pub exact_parts : (s : Bool) (whole fraction : List ℕ) (x : Option Exponent) (m : ℕ) (e : ℤ)
@@ -163,13 +217,14 @@ minus-is false = refl
 
 -- a number with the text of a mantissa above 0, which means exactly its parts
 pub means_exactly : (s : Bool) (m : ℕ) (e : ℤ) (w f : List ℕ) (x : Option Exponent) → 0 < m → m < 2 ^ 64
-    → FitsSigned w16 e → IsWholePart w → AllDigits f → grammar.IsExponent x
+    → FitsSigned w16 e → IsWholePart w → AllDigits f → length f ≤ 20 → grammar.IsExponent x
     → w ++ fraction_spelled f ++ exponent_spelled x ≡ magnitude_text (decimal m) e → digits_number (w ++ f) ≡ m
     → (pos 0 -ℤ pos (length f)) +ℤ written_exponent x ≡ e → HasNumeral s m e
-means_exactly s m e w f x above fits small whole digits power spelled value sum =
+means_exactly s m e w f x above fits small whole digits few power spelled value sum =
     let text : number_text s m e ≡ minus_spelled (not s) ++ (w ++ fraction_spelled f ++ exponent_spelled x) =
     number_text-above s m e above ∙ ap (λ t. sign_text s ++ t) (sym spelled)
     ∙ ap (λ t. t ++ (w ++ fraction_spelled f ++ exponent_spelled x)) (sym (minus-is s)) in
     means_as s m e (numeral s w f x) (parts s m e) (whole_test w whole, digits_test f digits, power)
+    (all_kept (w ++ f) (omega (arith, value)), exponent_stays w f x e (omega (arith, value)) few sum small)
     (ap (λ t. minus_spelled (not s) ++ t) (sym (append_assoc w (fraction_spelled f) (exponent_spelled x))) ∙ sym text)
     (exact_parts s w f x m e value fits sum small) (same_equiv.refl (parts s m e)) refl

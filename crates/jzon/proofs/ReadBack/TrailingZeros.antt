@@ -4,7 +4,7 @@ use Rattle.jzon_base.proofs.Common.{◌≡◌, ℕ, suc, zero, ℤ, pos, ◌+ℤ
 use Rattle.jzon_base.proofs.Common.{◌==◌, None, List, [], ◌∷◌, ◌++◌, length, take, replicate, Bool, true, false, not}
 use Rattle.jzon_base.proofs.Common.{refl, sym, ap, ◌∙◌, arith, decimal, length-append, append_assoc, append-nil}
 use Rattle.jzon_base.proofs.Common.{pow-add, fold, ints, not-not, one-le-pow, mul-le-mul_right, pow-le-pow_right}
-use Rattle.jzon_base.proofs.Common.{fold-append, length-replicate, take_all, get_or_append_left}
+use Rattle.jzon_base.proofs.Common.{fold-append, length-replicate, take_all, get_or, get_or_append_left}
 use Rattle.std.proofs.Common.{eq-eqb}
 use Rattle.std.proofs.lemmas.Fmt.{decimal_step}
 use Rattle.std.proofs.Math.Bool.{or-true}
@@ -20,7 +20,9 @@ use Rattle.jzon.specs.Meaning.{number_of}
 use Rattle.jzon.proofs.ReadBack.NumeralTexts.{numeral_spelled, minus_spelled}
 use Rattle.jzon.proofs.ReadBack.PrintedParts.{HasNumeral, numeral, AllDigits, IsWholePart, whole_test, all-zeros}
 use Rattle.jzon.proofs.ReadBack.PrintedParts.{number_decimal, digits-append, IsMantissa, mantissa, if-le, if-ne}
-use Rattle.jzon.proofs.ReadBack.PrintedParts.{number_text-above, means_as, exact_parts, minus-is}
+use Rattle.jzon.proofs.ReadBack.PrintedParts.{number_text-above, means_as, exact_parts, minus-is, all_kept}
+use Rattle.jzon_base.specs.LostDigits.{LosesNone}
+use Rattle.std.proofs.Math.Seq.{get_or-append_seam}
 
 -- ---- powers of ten
 
@@ -107,6 +109,7 @@ zeros_kept s m k above fits room all =
     let some : 0 < v = one-le-mul above (one-le-pow k 10 (omega arith)) in
     let w : List ℕ = decimal m ++ replicate k 48 in
     means_as s m (pos k) (numeral s w [] None) (parts s v (pos 0)) (whole_test w (zeros_whole m k above fits), tt, tt)
+    (all_kept (w ++ []) (omega (arith, ap digits_number (append-nil w), digits_number-zeros m k fits, all)), tt)
     (zeros_spelled s m k above room)
     (exact_parts s w [] None v (pos 0) (ap digits_number (append-nil w) ∙ digits_number-zeros m k fits) all refl
     (omega (arith, ints)))
@@ -126,6 +129,13 @@ one_dropped s w u n all value size =
     let none : kept_fraction w [] ≡ 0 = omega (arith, all, size) in
     let inner : (pos (dropped w []) -ℤ pos (kept_fraction w [])) +ℤ pos 0 ≡ pos 1 = rw (one, none) refl in
     rw (not-not s, inner, all, value) refl
+
+-- if only the last digit is dropped, and is 0, none is lost
+last_zero : (w prefix : List ℕ) (n : ℕ) → n ≡ length prefix → kept_len w ≡ n → w ≡ prefix ++ 48 ∷ [] → LosesNone w
+last_zero w prefix n size all split i past below within =
+    let len : length w ≡ n + 1 = ap length split ∙ length-append prefix (48 ∷ []) ∙ omega (arith, size) in
+    let at : i ≡ length prefix = omega (arith, len, size, all) in
+    rw at (ap (λ l. get_or l (length prefix) 0) split ∙ get_or-append_seam prefix 48 [] 0)
 
 below_power : (v : ℕ) (ds : List ℕ) → AllDigits ds → fold add_digit v ds < (v + 1) * 10 ^ length ds
 below_power v [] all = omega arith
@@ -172,6 +182,7 @@ zero_dropped s m j above fits room over =
     let shown : decimal u ≡ prefix = decimal-zeros m j above small in
     means_as s m (pos (suc j)) (numeral s w [] None) (parts s u (pos 1))
     (whole_test w (zeros_whole m (suc j) above fits), tt, tt)
+    (last_zero (w ++ []) prefix n refl all (append-nil w ∙ split), tt)
     (zeros_spelled s m (suc j) above room) (one_dropped s w u n all value size)
     (same_equiv.symm (parts s u (pos 1)) (parts s m (pos (suc j)))
     ∙ same_scaled s m (pos (suc j)) u (pos 1) (sym (scaled-eq-fits m (pos (suc j)) u (pos 1) j u (omega arith) refl)

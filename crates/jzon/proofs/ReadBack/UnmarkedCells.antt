@@ -6,7 +6,7 @@ use Rattle.jzon.specs.Reading.{Reading}
 use Rattle.jzon.specs.Grammar.{Sign, unsigned, plus, minus, Exponent, Numeral, Item, simple, single, double, Key}
 use Rattle.jzon.specs.Grammar.{IsWhole}
 use Rattle.jzon.specs.Grammar as grammar
-use Rattle.jzon.specs.Spelling.{Breach, Cell, cell, plain, marked_last, drops_too_many, keeps_too_many, digits_cells}
+use Rattle.jzon.specs.Spelling.{Breach, Cell, cell, plain, marked_last, whole_breach, fraction_breach, exponent_breach, digits_cells}
 use Rattle.jzon.specs.Spelling.{whole_cells, fraction_cells, sign_cells, exponent_cells, magnitude_cells, item_cells}
 use Rattle.jzon.specs.Spelling.{items_cells, key_cells}
 use Rattle.jzon.proofs.Texts.Cells.{marks_of}
@@ -36,39 +36,42 @@ marked_last_rest (c ∷ d ∷ cs) m k h = marked_last_rest (d ∷ cs) m k h.1
 
 -- ---- numbers
 
-digits_rest : (too_many : List ℕ → Bool) (prefix ds : List ℕ) (k : List Cell)
-    → HaveNoMarks (digits_cells too_many prefix ds k) → HaveNoMarks k
-digits_rest too_many prefix [] k h = h
-digits_rest too_many prefix (d ∷ ds) k h = digits_rest too_many (d ∷ prefix) ds k h.1
+digits_rest : (breach : List ℕ → Option Breach) (prefix ds : List ℕ) (k : List Cell)
+    → HaveNoMarks (digits_cells breach prefix ds k) → HaveNoMarks k
+digits_rest breach prefix [] k h = h
+digits_rest breach prefix (d ∷ ds) k h = digits_rest breach (d ∷ prefix) ds k h.1
 
-fraction_rest : (whole ds : List ℕ) (k : List Cell) → HaveNoMarks (fraction_cells whole ds k) → HaveNoMarks k
-fraction_rest whole [] k h = h
-fraction_rest whole (d ∷ ds) k h = digits_rest (keeps_too_many whole) [] (d ∷ ds) k h.1
+fraction_rest : (r : Reading) (whole ds : List ℕ) (k : List Cell) → HaveNoMarks (fraction_cells r whole ds k) → HaveNoMarks k
+fraction_rest r whole [] k h = h
+fraction_rest r whole (d ∷ ds) k h = digits_rest (fraction_breach r whole) [] (d ∷ ds) k h.1
 
-sign_rest : (s : Sign) (k : List Cell) → HaveNoMarks (sign_cells s k) → HaveNoMarks k
+pub sign_rest : (s : Sign) (k : List Cell) → HaveNoMarks (sign_cells s k) → HaveNoMarks k
 sign_rest unsigned k h = h
 sign_rest _ k h = h.1
 
-exponent_rest : (e : Option Exponent) (k : List Cell) → HaveNoMarks (exponent_cells e k) → HaveNoMarks k
-exponent_rest None k h = h
-exponent_rest (Some e) k h = plain_rest e.digits k (sign_rest e.sign (plain e.digits k) h.1)
+exponent_rest : (r : Reading) (whole ds : List ℕ) (e : Option Exponent) (k : List Cell)
+    → HaveNoMarks (exponent_cells r whole ds e k) → HaveNoMarks k
+exponent_rest r whole ds None k h = h
+exponent_rest r whole ds (Some e) k h =
+    digits_rest (exponent_breach r whole ds e.sign) [] e.digits k (sign_rest e.sign _ h.1)
 
-whole_first : (ds : List ℕ) (m : Option Breach) (k : List Cell) → IsWhole ds → HaveNoMarks (whole_cells ds m k)
+whole_first : (r : Reading) (ds : List ℕ) (m : Option Breach) (k : List Cell) → IsWhole ds
+    → HaveNoMarks (whole_cells r ds m k)
     → (m ≡ None) × HaveNoMarks k
-whole_first [] m k ok h = absurd ok
-whole_first (d ∷ ds) m k ok h = (h.0, digits_rest drops_too_many (d ∷ []) ds k h.1)
+whole_first r [] m k ok h = absurd ok
+whole_first r (d ∷ ds) m k ok h = (h.0, digits_rest (whole_breach r) (d ∷ []) ds k h.1)
 
-magnitude_first : (n : Numeral) (m : Option Breach) (k : List Cell) → IsWhole n.whole
-    → HaveNoMarks (magnitude_cells n m k) → (m ≡ None) × HaveNoMarks k
-magnitude_first n m k ok h =
-    let w = whole_first n.whole m (fraction_cells n.whole n.fraction (exponent_cells n.exponent k)) ok h in
-    (w.0, exponent_rest n.exponent k (fraction_rest n.whole n.fraction (exponent_cells n.exponent k) w.1))
+magnitude_first : (r : Reading) (n : Numeral) (m : Option Breach) (k : List Cell) → IsWhole n.whole
+    → HaveNoMarks (magnitude_cells r n m k) → (m ≡ None) × HaveNoMarks k
+magnitude_first r n m k ok h =
+    let w = whole_first r n.whole m _ ok h in
+    (w.0, exponent_rest r n.whole n.fraction n.exponent k (fraction_rest r n.whole n.fraction _ w.1))
 
-pub signed_first : (negative : Bool) (n : Numeral) (m : Option Breach) (k : List Cell) → IsWhole n.whole
-    → HaveNoMarks (if negative then cell 45 m ∷ magnitude_cells n None k else magnitude_cells n m k) → (m ≡ None)
+pub signed_first : (r : Reading) (negative : Bool) (n : Numeral) (m : Option Breach) (k : List Cell) → IsWhole n.whole
+    → HaveNoMarks (if negative then cell 45 m ∷ magnitude_cells r n None k else magnitude_cells r n m k) → (m ≡ None)
     × HaveNoMarks k
-signed_first true n m k ok h = (h.0, (magnitude_first n None k ok h.1).1)
-signed_first false n m k ok h = magnitude_first n m k ok h
+signed_first r true n m k ok h = (h.0, (magnitude_first r n None k ok h.1).1)
+signed_first r false n m k ok h = magnitude_first r n m k ok h
 
 -- ---- strings
 

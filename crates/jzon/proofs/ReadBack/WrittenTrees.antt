@@ -84,7 +84,7 @@ pub number_spells : (r : Reading) (s : Bool) (m : ℕ) (e : ℤ) (n : Numeral) �
     → IsPrintedAs s m e n → NodeSpells r 0 (number_text s m e) (Node.number n)
 number_spells r s m e n fits small h =
     ascii_spells r (number_text s m e) (Node.number n) (IsAscii-number s m e fits small) h.in_grammar
-    (λ depth k. printed-plain s m e n k fits small h)
+    (λ depth k. printed-plain r s m e n k fits small h)
 
 pub empty_array_spells : (r : Reading) → NodeSpells r 0 (codes "[]") (Node.empty_array [])
 empty_array_spells r = ascii_spells r _ (Node.empty_array []) (IsAscii-true (codes "[]") refl) tt (λ depth k. refl)

@@ -5,12 +5,12 @@
 -- whether there can be one (`IsDeep`). There can if a move has that mark (`deep_of_go`) or is `bad_deep`
 -- (`deep_of_bad_deep`); then no move is `bad` (`deep_not_bad`), and some move has that mark (`deep_some`).
 use Rattle.jzon_base.proofs.Common.{◌≡◌, ℕ, zero, suc, ◌+◌, ◌-◌, List, [], ◌∷◌, Bool, true, false, cond, ◌==◌, nat_le}
-use Rattle.jzon_base.proofs.Common.{Option, Some, None, refl, subst, ap, ◌∙◌, arith, ⊤, is_ascii_hexdigit}
+use Rattle.jzon_base.proofs.Common.{Option, Some, None, if◌then◌else◌, refl, subst, ap, ◌∙◌, arith, ⊤, is_ascii_hexdigit}
 use Rattle.jzon_tree.specs.Value.{Value}
 use Rattle.jzon_tree.specs.Value as value
 use Rattle.jzon.specs.Reading.{Reading}
 use Rattle.jzon.specs.Grammar.{is_unescaped, is_simple, is_surrogate}
-use Rattle.jzon.specs.Spelling.{Breach, deep, pair, digit, breach_if, onto}
+use Rattle.jzon.specs.Spelling.{Breach, deep, pair, digit, inexact, breach_if, onto}
 use Rattle.jzon.specs.Private.Classes.{Class, whitespace, digits, minus_char, plus_char, point, letter_e, quote}
 use Rattle.jzon.specs.Private.Classes.{opens_array, closes_array, opens_object, closes_object, comma, colon}
 use Rattle.jzon.specs.Private.Classes.{begins_null, begins_true, begins_false, class_of, NumberState, after_minus}
@@ -93,8 +93,12 @@ other_mark : (v : Bool) (b : Breach) (m : Option Breach) → (b ≡ deep → ⊥
 other_mark true b m other e = absurd (other (let f : b ≡ deep = cc in f))
 other_mark false b m other e = absurd (cc)
 
-digit_mark : (v : Bool) → breach_if v digit ≡ Some deep → None ≡ Some deep
-digit_mark v = other_mark v digit None (λ e. cc)
+digit_mark : (t v : Bool) → (if t then Some digit else breach_if v inexact) ≡ Some deep → None ≡ Some deep
+digit_mark true v = other_mark true digit None (λ e. cc)
+digit_mark false v = other_mark v inexact None (λ e. cc)
+
+exponent_mark : (v : Bool) → breach_if v inexact ≡ Some deep → None ≡ Some deep
+exponent_mark v = other_mark v inexact None (λ e. cc)
 
 bad_reports : (K : State → Type 0) (v : Bool) → Reports K (breach_if v deep) (bad_at (breach_if v deep))
 bad_reports K true = refl
@@ -164,25 +168,25 @@ fraction_reports : (class : Class) (fs : Frames) (negative : Bool) (ws ds : List
 fraction_reports letter_e fs negative ws ds c = (unmarked _, tt)
 fraction_reports class fs negative ws ds c = after_reports class fs (number_value negative ws ds None)
 
-numeral_reports : (x : NumberState) (class : Class) (fs : Frames) (negative : Bool) (c : ℕ)
-    → Reports Keyless None (move_numeral x class fs negative c)
-numeral_reports after_minus digits fs negative c = (unmarked _, tt)
-numeral_reports after_minus _ fs negative c = shut
-numeral_reports zero_read class fs negative c = whole_reports class fs negative (48 ∷ []) c
-numeral_reports (whole ds) digits fs negative c = (digit_mark _, tt)
-numeral_reports (whole ds) class fs negative c = whole_reports class fs negative (onto ds []) c
-numeral_reports (pointed ws) digits fs negative c = (digit_mark _, tt)
-numeral_reports (pointed ws) _ fs negative c = shut
-numeral_reports (fraction ws ds) digits fs negative c = (digit_mark _, tt)
-numeral_reports (fraction ws ds) class fs negative c = fraction_reports class fs negative ws (onto ds []) c
-numeral_reports (after_letter ws ds l) digits fs negative c = (unmarked _, tt)
-numeral_reports (after_letter ws ds l) plus_char fs negative c = (unmarked _, tt)
-numeral_reports (after_letter ws ds l) minus_char fs negative c = (unmarked _, tt)
-numeral_reports (after_letter ws ds l) _ fs negative c = shut
-numeral_reports (signed_exponent ws ds l s) digits fs negative c = (unmarked _, tt)
-numeral_reports (signed_exponent ws ds l s) _ fs negative c = shut
-numeral_reports (exponent ws ds l s xs) digits fs negative c = (unmarked _, tt)
-numeral_reports (exponent ws ds l s xs) class fs negative c =
+numeral_reports : (r : Reading) (x : NumberState) (class : Class) (fs : Frames) (negative : Bool) (c : ℕ)
+    → Reports Keyless None (move_numeral r x class fs negative c)
+numeral_reports r after_minus digits fs negative c = (unmarked _, tt)
+numeral_reports r after_minus _ fs negative c = shut
+numeral_reports r zero_read class fs negative c = whole_reports class fs negative (48 ∷ []) c
+numeral_reports r (whole ds) digits fs negative c = (digit_mark _ _, tt)
+numeral_reports r (whole ds) class fs negative c = whole_reports class fs negative (onto ds []) c
+numeral_reports r (pointed ws) digits fs negative c = (digit_mark _ _, tt)
+numeral_reports r (pointed ws) _ fs negative c = shut
+numeral_reports r (fraction ws ds) digits fs negative c = (digit_mark _ _, tt)
+numeral_reports r (fraction ws ds) class fs negative c = fraction_reports class fs negative ws (onto ds []) c
+numeral_reports r (after_letter ws ds l) digits fs negative c = (exponent_mark _, tt)
+numeral_reports r (after_letter ws ds l) plus_char fs negative c = (unmarked _, tt)
+numeral_reports r (after_letter ws ds l) minus_char fs negative c = (unmarked _, tt)
+numeral_reports r (after_letter ws ds l) _ fs negative c = shut
+numeral_reports r (signed_exponent ws ds l s) digits fs negative c = (exponent_mark _, tt)
+numeral_reports r (signed_exponent ws ds l s) _ fs negative c = shut
+numeral_reports r (exponent ws ds l s xs) digits fs negative c = (exponent_mark _, tt)
+numeral_reports r (exponent ws ds l s xs) class fs negative c =
     after_reports class fs (number_value negative ws ds (exponent_of l s (onto xs [])))
 
 -- ---- strings
@@ -252,7 +256,7 @@ reports : (r : Reading) (p : State) (c left : ℕ) → Reports (λ q. ⊤) (next
 reports r (before fs) c left = loose _ _ _ (before_reports r (class_of r.strict c) fs c)
 reports r (before_key fs es) c left = key_reports r (class_of r.strict c) fs es left
 reports r (word fs v l ls) c left = loose _ _ _ (word_reports (c == l) fs v ls)
-reports r (numeral fs negative x) c left = loose _ _ _ (numeral_reports x (class_of r.strict c) fs negative c)
+reports r (numeral fs negative x) c left = loose _ _ _ (numeral_reports r x (class_of r.strict c) fs negative c)
 reports r (string (as_value fs) bs x) c left = loose _ _ _ (value_string_reports r fs x bs c left)
 reports r (string (as_key fs es opened) bs x) c left =
     string_reports r (λ q. ⊤) (as_key fs es opened) x bs c left (λ b y. tt) (other_mark _ _ None (λ e. cc), tt)
@@ -324,7 +328,7 @@ same_alike r i j c (before fs) h = same_move i j (value_mark r fs) _ (before_rep
 same_alike r i j c (before_key fs es) h = key_alike r i j (class_of r.strict c) fs es
 same_alike r i j c (word fs v l ls) h = same_move i j None _ (word_reports (c == l) fs v ls)
 same_alike r i j c (numeral fs negative x) h =
-    same_move i j None _ (numeral_reports x (class_of r.strict c) fs negative c)
+    same_move i j None _ (numeral_reports r x (class_of r.strict c) fs negative c)
 same_alike r i j c (string (as_value fs) bs x) h = alike_value_string r i j fs x bs c
 same_alike r i j c (string (as_key fs es opened) bs x) h = absurd h
 same_alike r i j c (after_key fs es k) h = same_move i j None _ (after_key_reports (class_of r.strict c) fs es k)

@@ -1,12 +1,13 @@
 -- Closing: from each state some text leads to an end (`closes`). The text is computed by `closer` from the state alone:
 -- the missing digit or letter, a quote, a value, and the brackets that close the open containers. It may break limits.
-use Rattle.jzon_base.proofs.Common.{◌≡◌, ℕ, zero, suc, List, [], ◌∷◌, ◌++◌, codes, refl, Bool, true, false, None, ◌&&◌}
+use Rattle.jzon_base.proofs.Common.{◌≡◌, ℕ, zero, suc, List, [], ◌∷◌, ◌++◌, codes, refl, Bool, true, false, Option, ◌&&◌}
 use Rattle.std.proofs.Common.{eq-eqb}
 use Rattle.jzon_base.specs.PairList.{put}
 use Rattle.jzon_tree.specs.Value as value
 use Rattle.jzon_tree.specs.Value.{Value, values_of, pairs_of, kind_of}
 use Rattle.jzon.specs.Reading.{Reading}
 use Rattle.jzon.specs.Grammar.{is_surrogate, is_high, is_low, unsigned}
+use Rattle.jzon.specs.Spelling.{Breach}
 use Rattle.jzon.specs.Private.Classes.{NumberState, after_minus, zero_read, whole, pointed, fraction, after_letter}
 use Rattle.jzon.specs.Private.Classes.{signed_exponent, exponent, digits, closes_array, closes_object, quote, colon}
 use Rattle.jzon.specs.Private.Classes.{begins_null}
@@ -91,8 +92,8 @@ module _ (r : Reading) where
   -- a state where a number may end, with this value
   ends_number : (fs : Frames) (negative : Bool) (x : NumberState) (v : Value)
       → last_numeral x fs negative ≡ meant_at fs v
-      → move_numeral x closes_array fs negative 93 ≡ move_after_value closes_array fs v
-      → move_numeral x closes_object fs negative 125 ≡ move_after_value closes_object fs v
+      → move_numeral r x closes_array fs negative 93 ≡ move_after_value closes_array fs v
+      → move_numeral r x closes_object fs negative 125 ≡ move_after_value closes_object fs v
       → Ends (brackets fs) (numeral fs negative x)
   ends_number no_frames negative x v e f g = (v, e)
   ends_number (array_frame fs vs) negative x v e f g =
@@ -103,15 +104,15 @@ module _ (r : Reading) where
       (h.0, rw (class-char r.strict closes_object) (rw g h.1))
 
   -- a digit is missing
-  ends_zero : (fs : Frames) (negative : Bool) (x : NumberState) (p : State)
-      → move_numeral x digits fs negative 48 ≡ go None p → Ends (brackets fs) p
+  ends_zero : (fs : Frames) (negative : Bool) (x : NumberState) (m : Option Breach) (p : State)
+      → move_numeral r x digits fs negative 48 ≡ go m p → Ends (brackets fs) p
       → Ends (48 ∷ brackets fs) (numeral fs negative x)
-  ends_zero fs negative x p e h = (h.0, rw (digits-class r.strict 48 refl) (rw e h.1))
+  ends_zero fs negative x m p e h = (h.0, rw (digits-class r.strict 48 refl) (rw e h.1))
 
   ends_numeral : (fs : Frames) (negative : Bool) (x : NumberState)
       → Ends (digit_closer x (brackets fs)) (numeral fs negative x)
   ends_numeral fs negative after_minus =
-      ends_zero fs negative after_minus (numeral fs true zero_read) refl
+      ends_zero fs negative after_minus _ (numeral fs true zero_read) refl
       (ends_number fs true zero_read _ refl refl refl)
   ends_numeral fs negative zero_read = ends_number fs negative zero_read _ refl refl refl
   ends_numeral fs negative (whole ds) = ends_number fs negative (whole ds) _ refl refl refl
@@ -121,10 +122,10 @@ module _ (r : Reading) where
   ends_numeral fs negative (fraction ws ds) = ends_number fs negative (fraction ws ds) _ refl refl refl
   ends_numeral fs negative (after_letter ws ds l) =
       let x : NumberState = exponent ws ds l unsigned (48 ∷ []) in
-      ends_zero fs negative (after_letter ws ds l) (numeral fs negative x) refl (ends_number fs negative x _ refl refl refl)
+      ends_zero fs negative (after_letter ws ds l) _ (numeral fs negative x) refl (ends_number fs negative x _ refl refl refl)
   ends_numeral fs negative (signed_exponent ws ds l s) =
       let x : NumberState = exponent ws ds l s (48 ∷ []) in
-      ends_zero fs negative (signed_exponent ws ds l s) (numeral fs negative x) refl
+      ends_zero fs negative (signed_exponent ws ds l s) _ (numeral fs negative x) refl
       (ends_number fs negative x _ refl refl refl)
   ends_numeral fs negative (exponent ws ds l s xs) = ends_number fs negative (exponent ws ds l s xs) _ refl refl refl
 

@@ -5,13 +5,13 @@ use Rattle.jzon_base.proofs.Common.{slice_range, IsCharBoundary, drop-drop, char
 use Rattle.jzon_base.proofs.Common.{get_or-append_seam, take-append_seam}
 use Rattle.std.proofs.lemmas.List.{length-append}
 use Rattle.jzon_base.specs.declared.error.Error.{Error}
-use Rattle.jzon_base.specs.declared.error.Error.TheVariants.{DuplicateKey}
-use Rattle.jzon.specs.Spelling.{deep, pair, digit, duplicate}
+use Rattle.jzon_base.specs.declared.error.Error.TheVariants.{DuplicateKey, InexactNumber}
+use Rattle.jzon.specs.Spelling.{deep, pair, digit, duplicate, inexact}
 use Rattle.jzon.specs.Fault.{limit, line, column, error_at, reported_offset}
 use Rattle.jzon.specs.Private.Machine.{Reports, Outcome, meant, refused, left_at, fault_here}
 use Rattle.jzon.specs.Private.Stops.{IsAtBoundary, stop_offset, error_between, reported_error}
 use Rattle.jzon.specs.declared.fault.Stop.{Stop}
-use Rattle.jzon.specs.declared.fault.Stop.TheVariants.{Limit, Surrogates, At, Duplicate}
+use Rattle.jzon.specs.declared.fault.Stop.TheVariants.{Limit, Surrogates, At, Duplicate, Inexact}
 
 -- the characters of a text are those before a boundary and those after it
 pub chars_split : (bs : List ℕ) (i : ℕ) → IsUtf8 bs → IsCharBoundary bs i
@@ -35,6 +35,19 @@ reports_limit bs i o u at (inr q) = subst (Reports bs (Limit i)) (sym q) (at, re
 pub reports_pair : (bs : List ℕ) (i : ℕ) (o : Outcome) → IsUtf8 bs → IsCharBoundary bs i
     → o ≡ refused (limit pair) (chars (drop i bs)) → Reports bs (Surrogates i) o
 reports_pair bs i o u at q = subst (Reports bs (Surrogates i)) (sym q) (at, refl, before_boundary bs i u at)
+
+pub prefix_of : (f rest : List ℕ) (i : ℕ) → i ≡ length f → take i (f ++ rest) ≡ f
+prefix_of f rest i e = ap (λ k. take k (f ++ rest)) e ∙ take-append_seam f rest
+
+pub reports_inexact : (bs : List ℕ) (i : ℕ) (o : Outcome) → IsUtf8 bs → IsCharBoundary bs i
+    → o ≡ refused (limit inexact) (chars (drop i bs)) → Reports bs (Inexact i) o
+reports_inexact bs i o u at q =
+    let split = chars_split bs i u at in
+    let whole : length (chars bs) - left_at bs i ≡ length (chars (take i bs)) = sym (before_boundary bs i u at) in
+    let prefix : take (length (chars bs) - left_at bs i) (chars bs) ≡ chars (take i bs) =
+    ap (take (length (chars bs) - left_at bs i)) split ∙ prefix_of (chars (take i bs)) (chars (drop i bs)) _ whole in
+    subst (Reports bs (Inexact i)) (sym q)
+    (at, ap (λ f. InexactNumber (line f) (column f)) (sym prefix), sym whole)
 
 -- the offset of what is reported is a boundary
 pub boundary_of : (bs : List ℕ) (e : Stop) (o : Outcome) → Reports bs e o → IsAtBoundary bs e
@@ -79,9 +92,6 @@ left_after bs i j u from to le =
     let text : IsUtf8 run = IsUtf8-between bs i j u le from to in
     let whole = chars-append run (drop j bs) text in
     rw split (omega (arith, ap length whole, length-append (chars run) (chars (drop j bs))))
-
-pub prefix_of : (f rest : List ℕ) (i : ℕ) → i ≡ length f → take i (f ++ rest) ≡ f
-prefix_of f rest i e = ap (λ k. take k (f ++ rest)) e ∙ take-append_seam f rest
 
 -- a repeated key is reported at its opening quote, at offset i
 pub reports_duplicate : (bs : List ℕ) (i j : ℕ) → IsUtf8 bs → IsCharBoundary bs i → IsCharBoundary bs j → i ≤ j

@@ -1,15 +1,14 @@
 -- The error of a text with its place, from where the parser stopped.
-use Rattle.jzon_base.proofs.Common.{◌≡◌, inl, inr, ℕ, ◌-◌, List, length, take, drop, Result, Ok, Err, Some, sym, ap, subst, ◌∙◌, refl}
+use Rattle.jzon_base.proofs.Common.{◌≡◌, inl, inr, ℕ, ◌-◌, List, length, take, drop, sym, ap, ◌∙◌, refl}
 use Rattle.jzon_base.proofs.Common.{chars, IsUtf8, IsCharBoundary}
-use Rattle.jzon_tree.specs.declared.value.JsonValue.{JsonValue}
 use Rattle.jzon.specs.Reading.{Reading}
-use Rattle.jzon.specs.Fault.{Fault, line, column, reported_offset}
+use Rattle.jzon.specs.Fault.{Fault, line, column}
 use Rattle.jzon.specs.Located.{IsPlaceOf, IsLocated}
-use Rattle.jzon.specs.Private.Machine.{no_frames, before, Outcome, meant, refused, outcome, from, Reads, Reports}
+use Rattle.jzon.specs.Private.Machine.{no_frames, before, Outcome, meant, refused, outcome, from, Reports}
 use Rattle.jzon.specs.Private.Machine.{ReportsUnlessMemory}
-use Rattle.jzon.specs.Private.Stops.{IsAtBoundary, stop_offset, stop_place, place_at, reported_error}
+use Rattle.jzon.specs.Private.Stops.{stop_place, place_at, reported_error}
 use Rattle.jzon.specs.declared.fault.Stop.{Stop}
-use Rattle.jzon.specs.declared.fault.Stop.TheVariants.{Memory, Limit, Surrogates, At, Duplicate}
+use Rattle.jzon.specs.declared.fault.Stop.TheVariants.{Memory, Limit, Surrogates, At, Duplicate, Inexact}
 use Rattle.jzon.specs.declared.located.LocatedError.{LocatedError}
 use Rattle.jzon.proofs.Texts.FaultOffsets.{chars_split, prefix_of}
 use Rattle.jzon.proofs.Texts.ReportedErrors.{reports_no_memory}
@@ -33,6 +32,8 @@ located_at r bytes (Limit i) f rest u verdict h =
 located_at r bytes (Surrogates i) f rest u verdict h =
     inr (place_at bytes i, refl, (length (chars bytes) - length rest, f, verdict, h.1, place_of bytes i _ u h.0 h.2))
 located_at r bytes (At i) f rest u verdict h =
+    inr (place_at bytes i, refl, (length (chars bytes) - length rest, f, verdict, h.1, place_of bytes i _ u h.0 h.2))
+located_at r bytes (Inexact i) f rest u verdict h =
     inr (place_at bytes i, refl, (length (chars bytes) - length rest, f, verdict, h.1, place_of bytes i _ u h.0 h.2))
 located_at r bytes (Duplicate i) f rest u verdict h =
     inr (place_at bytes i, refl, (length (chars bytes) - length rest, f, verdict, h.1, place_of bytes i _ u h.0 h.2))

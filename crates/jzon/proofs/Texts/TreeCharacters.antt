@@ -6,7 +6,7 @@ use Rattle.jzon.specs.Reading.{Reading}
 use Rattle.jzon.specs.Grammar.{Sign, unsigned, plus, minus, Exponent, Numeral, Item, simple, single, double, Key, Node}
 use Rattle.jzon.specs.Grammar.{Elements, no_elements, element, Members, no_members, member, Document}
 use Rattle.jzon.specs.Grammar as grammar
-use Rattle.jzon.specs.Spelling.{Breach, drops_too_many, keeps_too_many, Cell, cell, marked_last, digits_cells}
+use Rattle.jzon.specs.Spelling.{Breach, whole_breach, fraction_breach, Cell, cell, marked_last, digits_cells}
 use Rattle.jzon.specs.Spelling.{whole_cells, fraction_cells, sign_cells, exponent_cells, magnitude_cells, item_cells}
 use Rattle.jzon.specs.Spelling.{items_cells, key_cells, node_cells, elements_cells, members_cells, spell}
 use Rattle.jzon.proofs.Texts.Cells.{chars_of, chars-plain}
@@ -71,7 +71,7 @@ document_chars d = d.before ++ node_chars d.node d.after
 
 -- ---- the cells of each part spell them
 
-chars-digits : (f : List ℕ → Bool) (prefix ds : List ℕ) (k : List Cell)
+chars-digits : (f : List ℕ → Option Breach) (prefix ds : List ℕ) (k : List Cell)
     → chars_of (digits_cells f prefix ds k) ≡ ds ++ chars_of k
 chars-digits f prefix [] k = refl
 chars-digits f prefix (d ∷ ds) k = ap (λ z. d ∷ z) (chars-digits f (d ∷ prefix) ds k)
@@ -81,31 +81,34 @@ chars-marked [] m k = refl
 chars-marked (c ∷ []) m k = refl
 chars-marked (c ∷ d ∷ cs) m k = ap (λ z. c ∷ z) (chars-marked (d ∷ cs) m k)
 
-chars-whole : (ds : List ℕ) (m : Option Breach) (k : List Cell) → chars_of (whole_cells ds m k) ≡ ds ++ chars_of k
-chars-whole [] m k = refl
-chars-whole (d ∷ ds) m k = ap (λ z. d ∷ z) (chars-digits drops_too_many (d ∷ []) ds k)
+chars-whole : (r : Reading) (ds : List ℕ) (m : Option Breach) (k : List Cell)
+    → chars_of (whole_cells r ds m k) ≡ ds ++ chars_of k
+chars-whole r [] m k = refl
+chars-whole r (d ∷ ds) m k = ap (λ z. d ∷ z) (chars-digits (whole_breach r) (d ∷ []) ds k)
 
-chars-fraction : (ws ds : List ℕ) (k : List Cell) → chars_of (fraction_cells ws ds k) ≡ fraction_chars ds (chars_of k)
-chars-fraction ws [] k = refl
-chars-fraction ws (d ∷ ds) k = ap (λ z. 46 ∷ z) (chars-digits (keeps_too_many ws) [] (d ∷ ds) k)
+chars-fraction : (r : Reading) (ws ds : List ℕ) (k : List Cell)
+    → chars_of (fraction_cells r ws ds k) ≡ fraction_chars ds (chars_of k)
+chars-fraction r ws [] k = refl
+chars-fraction r ws (d ∷ ds) k = ap (λ z. 46 ∷ z) (chars-digits (fraction_breach r ws) [] (d ∷ ds) k)
 
 chars-sign : (s : Sign) (k : List Cell) → chars_of (sign_cells s k) ≡ sign_chars s (chars_of k)
 chars-sign unsigned k = refl
 chars-sign _ k = refl
 
-chars-exponent : (x : Option Exponent) (k : List Cell) → chars_of (exponent_cells x k) ≡ exponent_chars x (chars_of k)
-chars-exponent None k = refl
-chars-exponent (Some e) k = simp (chars-sign, chars-plain)
+chars-exponent : (r : Reading) (ws ds : List ℕ) (x : Option Exponent) (k : List Cell)
+    → chars_of (exponent_cells r ws ds x k) ≡ exponent_chars x (chars_of k)
+chars-exponent r ws ds None k = refl
+chars-exponent r ws ds (Some e) k = simp (chars-sign, chars-digits)
 
-chars-magnitude : (n : Numeral) (m : Option Breach) (k : List Cell)
-    → chars_of (magnitude_cells n m k) ≡ magnitude_chars n (chars_of k)
-chars-magnitude n m k = simp (chars-whole, chars-fraction, chars-exponent)
+chars-magnitude : (r : Reading) (n : Numeral) (m : Option Breach) (k : List Cell)
+    → chars_of (magnitude_cells r n m k) ≡ magnitude_chars n (chars_of k)
+chars-magnitude r n m k = simp (chars-whole, chars-fraction, chars-exponent)
 
-chars-numeral : (negative : Bool) (n : Numeral) (m : Option Breach) (k : List Cell)
-    → chars_of (if negative then cell 45 m ∷ magnitude_cells n None k else magnitude_cells n m k)
+chars-numeral : (r : Reading) (negative : Bool) (n : Numeral) (m : Option Breach) (k : List Cell)
+    → chars_of (if negative then cell 45 m ∷ magnitude_cells r n None k else magnitude_cells r n m k)
     ≡ numeral_chars negative n (chars_of k)
-chars-numeral true n m k = ap (λ z. 45 ∷ z) (chars-magnitude n None k)
-chars-numeral false n m k = chars-magnitude n m k
+chars-numeral r true n m k = ap (λ z. 45 ∷ z) (chars-magnitude r n None k)
+chars-numeral r false n m k = chars-magnitude r n m k
 
 chars-item : (i : Item) (k : List Cell) → chars_of (item_cells i k) ≡ item_chars i (chars_of k)
 chars-item (grammar.plain c) k = refl
@@ -127,7 +130,7 @@ mutual
   chars-node r Node.null i m k = refl
   chars-node r (Node.boolean true) i m k = refl
   chars-node r (Node.boolean false) i m k = refl
-  chars-node r (Node.number n) i m k = chars-numeral n.negative n m k
+  chars-node r (Node.number n) i m k = chars-numeral r n.negative n m k
   chars-node r (Node.string is) i m k = ap (λ z. 34 ∷ z) (chars-items is _)
   chars-node r (Node.empty_array b) i m k = ap (λ z. 91 ∷ z) (chars-plain b _)
   chars-node r (Node.empty_object b) i m k = ap (λ z. 123 ∷ z) (chars-plain b _)

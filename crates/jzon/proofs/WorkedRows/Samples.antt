@@ -12,10 +12,10 @@ use Rattle.jzon.specs.Grammar.{IsExponent, IsNumeral, is_exponent_letter}
 -- ---- readings
 
 abbrev pub shallow : ℕ → Reading
-shallow n = record { strict = false; depth = n }
+shallow n = record { strict = false; depth = n; exact = false }
 
 abbrev pub strict_to : ℕ → Reading
-strict_to n = record { strict = true; depth = n }
+strict_to n = record { strict = true; depth = n; exact = false }
 
 -- ---- rows
 

@@ -14,7 +14,7 @@ use Rattle.jzon_tree.specs.declared.value.JsonValue.{JsonValue}
 use Rattle.jzon.specs.Reading.{Reading}
 use Rattle.jzon.specs.Grammar.{Sign, unsigned, plus, minus, Exponent, is_surrogate, is_high, is_low, is_unescaped}
 use Rattle.jzon.specs.Grammar.{is_simple}
-use Rattle.jzon.specs.Spelling.{Breach, deep, pair, digit, duplicate, breach_if, onto, drops_too_many, keeps_too_many}
+use Rattle.jzon.specs.Spelling.{Breach, deep, pair, duplicate, breach_if, onto, whole_breach, fraction_breach, exponent_breach}
 use Rattle.jzon.specs.Spelling.{deep_if}
 use Rattle.jzon.specs.Meaning.{number_of, unescaped, pair_char}
 use Rattle.jzon.specs.Fault.{Fault, limit, character, error_at, reported_offset}
@@ -200,29 +200,30 @@ move_after_fraction letter_e fs negative ws ds c = go None (numeral fs negative 
 move_after_fraction class fs negative ws ds c = move_after_value class fs (number_value negative ws ds None)
 
 -- in a number
-abbrev pub move_numeral : NumberState → Class → Frames → Bool → ℕ → Move
-move_numeral after_minus digits fs negative c = go None (numeral_after_first fs true c)
-move_numeral after_minus _ fs negative c = bad
-move_numeral zero_read class fs negative c = move_after_whole class fs negative (zero_digit ∷ []) c
-move_numeral (whole ds) digits fs negative c =
-    go (breach_if (drops_too_many (onto (c ∷ ds) [])) digit) (numeral fs negative (whole (c ∷ ds)))
-move_numeral (whole ds) class fs negative c = move_after_whole class fs negative (onto ds []) c
-move_numeral (pointed ws) digits fs negative c =
-    go (breach_if (keeps_too_many ws (onto (c ∷ []) [])) digit) (numeral fs negative (fraction ws (c ∷ [])))
-move_numeral (pointed ws) _ fs negative c = bad
-move_numeral (fraction ws ds) digits fs negative c =
-    go (breach_if (keeps_too_many ws (onto (c ∷ ds) [])) digit) (numeral fs negative (fraction ws (c ∷ ds)))
-move_numeral (fraction ws ds) class fs negative c = move_after_fraction class fs negative ws (onto ds []) c
-move_numeral (after_letter ws ds l) digits fs negative c = go None
+abbrev pub move_numeral : Reading → NumberState → Class → Frames → Bool → ℕ → Move
+move_numeral r after_minus digits fs negative c = go None (numeral_after_first fs true c)
+move_numeral r after_minus _ fs negative c = bad
+move_numeral r zero_read class fs negative c = move_after_whole class fs negative (zero_digit ∷ []) c
+move_numeral r (whole ds) digits fs negative c =
+    go (whole_breach r (onto (c ∷ ds) [])) (numeral fs negative (whole (c ∷ ds)))
+move_numeral r (whole ds) class fs negative c = move_after_whole class fs negative (onto ds []) c
+move_numeral r (pointed ws) digits fs negative c =
+    go (fraction_breach r ws (onto (c ∷ []) [])) (numeral fs negative (fraction ws (c ∷ [])))
+move_numeral r (pointed ws) _ fs negative c = bad
+move_numeral r (fraction ws ds) digits fs negative c =
+    go (fraction_breach r ws (onto (c ∷ ds) [])) (numeral fs negative (fraction ws (c ∷ ds)))
+move_numeral r (fraction ws ds) class fs negative c = move_after_fraction class fs negative ws (onto ds []) c
+move_numeral r (after_letter ws ds l) digits fs negative c = go (exponent_breach r ws ds unsigned (onto (c ∷ []) []))
     (numeral fs negative (exponent ws ds l unsigned (c ∷ [])))
-move_numeral (after_letter ws ds l) plus_char fs negative c = go None (numeral fs negative (signed_exponent ws ds l plus))
-move_numeral (after_letter ws ds l) minus_char fs negative c = go None (numeral fs negative (signed_exponent ws ds l minus))
-move_numeral (after_letter ws ds l) _ fs negative c = bad
-move_numeral (signed_exponent ws ds l s) digits fs negative c = go None
+move_numeral r (after_letter ws ds l) plus_char fs negative c = go None (numeral fs negative (signed_exponent ws ds l plus))
+move_numeral r (after_letter ws ds l) minus_char fs negative c = go None (numeral fs negative (signed_exponent ws ds l minus))
+move_numeral r (after_letter ws ds l) _ fs negative c = bad
+move_numeral r (signed_exponent ws ds l s) digits fs negative c = go (exponent_breach r ws ds s (onto (c ∷ []) []))
     (numeral fs negative (exponent ws ds l s (c ∷ [])))
-move_numeral (signed_exponent ws ds l s) _ fs negative c = bad
-move_numeral (exponent ws ds l s xs) digits fs negative c = go None (numeral fs negative (exponent ws ds l s (c ∷ xs)))
-move_numeral (exponent ws ds l s xs) class fs negative c = move_after_value class fs
+move_numeral r (signed_exponent ws ds l s) _ fs negative c = bad
+move_numeral r (exponent ws ds l s xs) digits fs negative c =
+    go (exponent_breach r ws ds s (onto (c ∷ xs) [])) (numeral fs negative (exponent ws ds l s (c ∷ xs)))
+move_numeral r (exponent ws ds l s xs) class fs negative c = move_after_value class fs
     (number_value negative ws ds (exponent_of l s (onto xs [])))
 
 -- ---- strings
@@ -294,7 +295,7 @@ abbrev pub move : Reading → State → ℕ → ℕ → Move
 move r (before fs) c left = move_before r (class_of r.strict c) fs c
 move r (before_key fs es) c left = move_before_key r (class_of r.strict c) fs es left
 move r (word fs v l ls) c left = if c == l then go None (past_letter fs v ls) else bad
-move r (numeral fs negative x) c left = move_numeral x (class_of r.strict c) fs negative c
+move r (numeral fs negative x) c left = move_numeral r x (class_of r.strict c) fs negative c
 move r (string role bs x) c left = move_string r x role bs c left
 move r (after_key fs es k) c left = move_after_key (class_of r.strict c) fs es k
 move r (after_value fs v) c left = move_after_value (class_of r.strict c) fs v

@@ -1,9 +1,14 @@
 -- What the rest of a text leads to after the first digit of a number, in any reading and inside any open containers.
-use Rattle.std.specs.Prelude.{◌≡◌, ℕ, ◌+◌, List, Bool, chars, drop, slice_index}
+use Rattle.std.specs.Prelude.{◌≡◌, ℕ, ◌+◌, List, ◌++◌, length, Bool, true, chars, drop, slice_index, nat_lt, if◌then◌else◌}
+use Rattle.jzon_base.specs.DigitLimits.{AreFewEnough}
+use Rattle.jzon_base.specs.LostDigits.{LosesNone, LosesNoneBefore, fault_position}
 use Rattle.jzon_base.specs.declared.digits.DigitFault.{DigitFault}
 use Rattle.jzon_base.specs.declared.digits.DigitFault.TheVariants.{Whole, Fraction}
+use Rattle.jzon_base.specs.declared.digits.NumberFault.{NumberFault}
+use Rattle.jzon_base.specs.declared.digits.NumberFault.TheVariants.{TooMany, Lost, OutOfRange}
+use Rattle.jzon.specs.declared.fault.Stop.{Stop}
 use Rattle.jzon.specs.Reading.{Reading}
-use Rattle.jzon.specs.declared.fault.Stop.TheVariants.{Limit}
+use Rattle.jzon.specs.declared.fault.Stop.TheVariants.{Limit, Inexact}
 use Rattle.jzon.specs.Private.Machine.{Frames, Outcome, State, numeral_after_first, from, fault_here, Reports}
 
 -- the outcome of the rest of the text after the digit at offset `start`
@@ -11,14 +16,18 @@ abbrev pub after_first : Reading → Frames → Bool → List ℕ → ℕ → Ou
 after_first r fs negative text start =
     from r text (numeral_after_first fs negative (slice_index text start)) (start + 1)
 
--- it is the outcome from offset `end` in the state that the containers and the sign give
-abbrev pub LeadsTo : List ℕ → ℕ → ℕ → (Frames → Bool → State) → Type 0
-LeadsTo text start end next = (r : Reading) (fs : Frames) (negative : Bool)
+-- The digits before and after the point exceed no limit, and an exact reading loses none of them.
+abbrev pub AreKept : Reading → List ℕ → List ℕ → Type 0
+AreKept r whole fraction = AreFewEnough whole fraction × (r.exact ≡ true → LosesNone (whole ++ fraction))
+
+-- it is the outcome from offset `end` in the state that the containers and the sign give, if these digits are kept
+abbrev pub LeadsTo : List ℕ → List ℕ → List ℕ → ℕ → ℕ → (Frames → Bool → State) → Type 0
+LeadsTo whole fraction text start end next = (r : Reading) (fs : Frames) (negative : Bool) → AreKept r whole fraction
     → after_first r fs negative text start ≡ from r text (next fs negative) end
 
 -- a digit is required at offset `end`, and the fault is there
-abbrev pub MissesDigit : List ℕ → ℕ → ℕ → Type 0
-MissesDigit text start end = (r : Reading) (fs : Frames) (negative : Bool)
+abbrev pub MissesDigit : List ℕ → List ℕ → List ℕ → ℕ → ℕ → Type 0
+MissesDigit whole fraction text start end = (r : Reading) (fs : Frames) (negative : Bool) → AreKept r whole fraction
     → after_first r fs negative text start ≡ fault_here (chars (drop end text))
 
 -- the offset of the digit that exceeds a limit, where so many digits are before the point
@@ -26,7 +35,24 @@ abbrev pub digit_offset : ℕ → ℕ → DigitFault → ℕ
 digit_offset start whole (Whole i) = start + i
 digit_offset start whole (Fraction i) = start + whole + 1 + i
 
--- the number has more digits than one may have, and the first one too many is at offset `at`
-abbrev pub HasTooMany : List ℕ → ℕ → ℕ → Type 0
-HasTooMany text start at = (r : Reading) (fs : Frames) (negative : Bool)
-    → Reports text (Limit at) (after_first r fs negative text start)
+-- The number has more digits than one may have, and the first one too many is at offset `at`, unless an exact reading
+-- loses a digit before it.
+abbrev pub HasTooMany : List ℕ → List ℕ → DigitFault → List ℕ → ℕ → Type 0
+HasTooMany whole fraction f text start = (r : Reading) (fs : Frames) (negative : Bool)
+    → (r.exact ≡ true → LosesNoneBefore (whole ++ fraction) (fault_position (length whole) f))
+    → Reports text (Limit (digit_offset start (length whole) f)) (after_first r fs negative text start)
+
+-- the offset of the digit at this position among those before and after the point
+abbrev pub lost_offset : ℕ → ℕ → ℕ → ℕ
+lost_offset start whole i = if nat_lt i whole then start + i else start + i + 1
+
+-- the stop at a digit of a number, which has so many digits before the point, and those of its exponent from this offset on
+abbrev pub number_stop : ℕ → ℕ → ℕ → NumberFault → Stop
+number_stop start whole exponent (TooMany f) = Limit (digit_offset start whole f)
+number_stop start whole exponent (Lost i) = Inexact (lost_offset start whole i)
+number_stop start whole exponent (OutOfRange i) = Inexact (exponent + i)
+
+-- an exact reading stops at a digit that is lost
+abbrev pub LosesDigit : List ℕ → List ℕ → ℕ → List ℕ → ℕ → Type 0
+LosesDigit whole fraction i text start = (r : Reading) (fs : Frames) (negative : Bool) → r.exact ≡ true
+    → Reports text (Inexact (lost_offset start (length whole) i)) (after_first r fs negative text start)

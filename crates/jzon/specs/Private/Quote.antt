@@ -15,7 +15,7 @@ EndsAtQuote source start end =
     (start < end) × IsCharBoundary source (end - 1) × IsCharBoundary source end
     × (slice_index source (end - 1) ≡ quotation_mark)
 
--- what is read from offset `start` on, in these states, adds a character to the string
+-- from offset `start` on, in these states, the character of the result is read, or the error says where it is wrong
 abbrev pub ReadsCharacter : List ℕ → ℕ → (Role → List ℕ → State) → Result (ℕ × ℕ) Stop → Type 0
 ReadsCharacter source start state result = (r : Reading) (role : Role) (bs : List ℕ)
     → Leads r source (state role bs) start result (λ ch. string role (bs ++ encode_utf8 ch) between)

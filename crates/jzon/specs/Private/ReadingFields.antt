@@ -4,4 +4,4 @@ use Rattle.jzon.specs.declared.reading.Reading.TheInside.{Inside}
 
 -- the fields of a reading
 abbrev pub fields_of : Reading → Inside
-fields_of r = record { strict = r.strict; depth = r.depth }
+fields_of r = record { strict = r.strict; depth = r.depth; exact = r.exact }

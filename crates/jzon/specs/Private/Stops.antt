@@ -4,10 +4,11 @@ use Rattle.std.specs.Str.{IsCharBoundary}
 use Rattle.jzon_base.specs.declared.error.Error.{Error}
 use Rattle.jzon_base.specs.declared.error.Error.TheVariants.{OutOfMemory, UnexpectedCharacter, UnexpectedEndOfJson}
 use Rattle.jzon_base.specs.declared.error.Error.TheVariants.{ExceededDepthLimit, FailedUtf8Parsing, DuplicateKey}
+use Rattle.jzon_base.specs.declared.error.Error.TheVariants.{InexactNumber}
 use Rattle.jzon.specs.Fault.{line, column}
 use Rattle.jzon.specs.declared.fault.Stop.{Stop}
 use Rattle.jzon.specs.declared.located.Place.{Place}
-use Rattle.jzon.specs.declared.fault.Stop.TheVariants.{Memory, Limit, Surrogates, At, Duplicate}
+use Rattle.jzon.specs.declared.fault.Stop.TheVariants.{Memory, Limit, Surrogates, At, Duplicate, Inexact}
 
 -- the offset of a stop, if it has one, is that of a character or of the end of the text
 abbrev pub IsAtBoundary : List ℕ → Stop → Type 0
@@ -16,6 +17,7 @@ IsAtBoundary bytes (Limit i) = IsCharBoundary bytes i
 IsAtBoundary bytes (Surrogates i) = IsCharBoundary bytes i
 IsAtBoundary bytes (At i) = IsCharBoundary bytes i
 IsAtBoundary bytes (Duplicate i) = IsCharBoundary bytes i
+IsAtBoundary bytes (Inexact i) = IsCharBoundary bytes i
 
 -- the offset of a stop, which has one unless an allocation failed
 abbrev pub stop_offset : Stop → ℕ
@@ -24,6 +26,7 @@ stop_offset (Limit i) = i
 stop_offset (Surrogates i) = i
 stop_offset (At i) = i
 stop_offset (Duplicate i) = i
+stop_offset (Inexact i) = i
 
 -- the place of this offset
 abbrev pub place_at : List ℕ → ℕ → Place
@@ -47,3 +50,4 @@ reported_error bytes (Limit i) = ExceededDepthLimit
 reported_error bytes (Surrogates i) = FailedUtf8Parsing
 reported_error bytes (At i) = error_between (chars (take i bytes)) (chars (drop i bytes))
 reported_error bytes (Duplicate i) = DuplicateKey (line (chars (take i bytes))) (column (chars (take i bytes)))
+reported_error bytes (Inexact i) = InexactNumber (line (chars (take i bytes))) (column (chars (take i bytes)))

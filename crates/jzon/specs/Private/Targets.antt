@@ -1,5 +1,5 @@
 -- Where values that are read go, and how the automaton goes on after them.
-use Rattle.std.specs.Prelude.{◌≡◌, ◌≢◌, ℕ, ◌<◌, List, true, false, None, Result, MatchResult, slice_index, length}
+use Rattle.std.specs.Prelude.{◌≡◌, ◌≢◌, ℕ, ◌<◌, List, Bool, true, false, None, Result, MatchResult, slice_index, length}
 use Rattle.jzon_base.specs.Tokens.{end_array}
 use Rattle.jzon_tree.specs.View.{view}
 use Rattle.jzon_tree.specs.Writing.{is_whitespace}
@@ -8,9 +8,10 @@ use Rattle.jzon.specs.Reading.{Reading}
 use Rattle.jzon.specs.declared.fault.Stop.{Stop}
 use Rattle.jzon.specs.Private.Machine.{Frames, State, is_fresh, value_mark, after_value, from, ReportsUnlessMemory}
 
--- A value may begin at byte i inside of the containers fs: they are not too many, and neither whitespace nor the end of
--- an empty array is there.
-pub record MayBegin (r : Reading) (fs : Frames) (bytes : List ℕ) (i : ℕ) : Type 0 where
+-- A value may begin at byte i inside of the containers fs, in a reading that is exact or not: they are not too many, and
+-- neither whitespace nor the end of an empty array is there.
+pub record MayBegin (r : Reading) (fs : Frames) (bytes : List ℕ) (i : ℕ) (exact : Bool) : Type 0 where
+  pub exactness : r.exact ≡ exact
   pub shallow : value_mark r fs ≡ None
   pub no_space : i < length bytes → is_whitespace r.strict (slice_index bytes i) ≡ false
   pub no_end : is_fresh fs ≡ true → slice_index bytes i ≢ end_array

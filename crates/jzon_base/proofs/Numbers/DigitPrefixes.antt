@@ -4,6 +4,7 @@ use Rattle.jzon_base.proofs.Common.{ap, ◌∙◌, subst, arith, inl, inr, lengt
 use Rattle.jzon_base.proofs.Common.{suc-add, pow-suc, nat_lt, if◌then◌else◌, lit<, fold, All, fold-append}
 use Rattle.jzon_base.proofs.Common.{take-append-le, take_all, All-head, All-tail, pow-le-pow_right, take-add}
 use Rattle.jzon_base.proofs.Common.{take-append-add, cases_lt, nat_tests}
+use Rattle.jzon_base.proofs.Common.{◌%◌, true, refl, sym, is_ascii_digit, prefix_len, All-append, All-take, length-take, mod-eq_of_lt}
 use Rattle.jzon_base.specs.DigitLimits.{IsLongestPrefix}
 use Rattle.jzon_base.specs.Digits.{IsDigit, add_digit, digits_number, longest_up_to, kept_len}
 
@@ -14,7 +15,7 @@ fold-ge v [] = omega arith
 fold-ge v (d ∷ ds) = let h : add_digit v d ≤ fold add_digit (add_digit v d) ds = fold-ge (add_digit v d) ds in omega
     (arith, h)
 
-fold-take-le : (v : ℕ) (ds : List ℕ) (i n : ℕ) → i ≤ n → fold add_digit v (take i ds) ≤ fold add_digit v (take n ds)
+pub fold-take-le : (v : ℕ) (ds : List ℕ) (i n : ℕ) → i ≤ n → fold add_digit v (take i ds) ≤ fold add_digit v (take n ds)
 fold-take-le v ds i n h =
     let split : n ≡ i + (n - i) = omega arith in
     let e : fold add_digit v (take n ds) ≡ fold add_digit (fold add_digit v (take i ds)) (take (n - i) (drop i ds)) =
@@ -141,11 +142,43 @@ below_power v k (d ∷ ds) all h =
     let next : add_digit v d < 10 ^ suc k = omega (arith, pow-suc 10 k, digit) in
     rw (add-suc, ← suc-add k (length ds)) (below_power (add_digit v d) (suc k) ds (All-tail IsDigit d ds all) next)
 
-pub few_fit : (ds : List ℕ) → All IsDigit ds → length ds ≤ 19 → digits_number ds < 2 ^ 64
-few_fit ds all few =
-    let most : 10 ^ length ds ≤ 10 ^ 19 = pow-le-pow_right (omega arith) few in
+pub below_ten_to : (n : ℕ) (ds : List ℕ) → All IsDigit ds → length ds ≤ n → digits_number ds < 10 ^ n
+below_ten_to n ds all few =
+    let most : 10 ^ length ds ≤ 10 ^ n = pow-le-pow_right (omega arith) few in
     let below : fold add_digit 0 ds < 10 ^ length ds = rw zero-add at (below_power 0 0 ds all (omega arith)) in
     omega (arith, below, most)
 
+pub few_fit : (ds : List ℕ) → All IsDigit ds → length ds ≤ 19 → digits_number ds < 2 ^ 64
+few_fit ds all few = let below = below_ten_to 19 ds all few in omega (arith, below)
+
 pub few_kept : (ds : List ℕ) → All IsDigit ds → length ds ≤ 19 → kept_len ds ≡ length ds
 few_kept ds all few = kept_all ds (few_fit ds all few)
+
+-- ---- the first digits, of which so many fit
+
+digit_true : (c : ℕ) → IsDigit c → is_ascii_digit c ≡ true
+digit_true c h = grind (arith, nat_tests)
+
+scan_all : (ds : List ℕ) → All IsDigit ds → prefix_len is_ascii_digit ds ≡ length ds
+scan_all [] all = refl
+scan_all (d ∷ ds) all =
+    rw (digit_true d (All-head IsDigit d ds all)) (omega (arith, scan_all ds (All-tail IsDigit d ds all)))
+
+-- a scan of the first digits, if their number fits
+pub scan_of_digits : (ds : List ℕ) (n before count number : ℕ) → All IsDigit ds → n ≤ length ds → before < 2 ^ 64
+    → fold add_digit before (take n ds) < 2 ^ 64 → count ≡ prefix_len is_ascii_digit (take n ds)
+    → ((m : ℕ) → before ≡ m % 2 ^ 64 → number ≡ fold add_digit m (take count (take n ds)) % 2 ^ 64)
+    → number ≡ fold add_digit before (take n ds)
+scan_of_digits ds n before count number all within small fits e is =
+    let counted : count ≡ length (take n ds) = e ∙ scan_all (take n ds) (All-take IsDigit n ds all) in
+    let same : take count (take n ds) ≡ take n ds = take_all count (take n ds) (omega (arith, counted)) in
+    is before (sym (mod-eq_of_lt small)) ∙ ap (λ l. fold add_digit before l % 2 ^ 64) same ∙ mod-eq_of_lt fits
+
+pub few_after : (whole fraction : List ℕ) (n : ℕ) → All IsDigit whole → All IsDigit fraction → n ≤ length fraction
+    → length whole + n ≤ 19 → fold add_digit (digits_number whole) (take n fraction) < 2 ^ 64
+few_after whole fraction n w f within few =
+    let ds = take (length whole + n) (whole ++ fraction) in
+    let fits : digits_number ds < 2 ^ 64 =
+    few_fit ds (All-take IsDigit (length whole + n) (whole ++ fraction) (All-append IsDigit whole fraction w f))
+    (omega (arith, length-take (length whole + n) (whole ++ fraction))) in
+    omega (arith, fits, digits_number-take-append whole fraction n)

@@ -38,7 +38,7 @@ impl Number {
     /// The number times `10 ^ point`, if that is an integer: at point 2, 12.30 is 1230, and 12.301
     /// is `None`, since a digit would be lost. At point 0 it is the integer that the number is,
     /// however it is written: 100, 1e2 or 100.0. `None` also for NaN, for a negative sign, even of
-    /// -0, and if it doesn't fit.
+    /// -0, and if it doesn't fit. It is exact of the number, not of a text whose digits were cut.
     pub fn as_exact_fixed_point_u64(&self, point: u16) -> Option<u64>
         ensures number { SomeWhere (exact_unsigned_fixed_point self.now point)
             (λ n. n < 2 ^ 64) result }
@@ -53,7 +53,8 @@ impl Number {
     }
 
     /// The number times `10 ^ point`, with its sign, if that is an integer: at point 2, -12.30 is
-    /// -1230. `None` if a digit other than 0 would be lost, for NaN, and if it doesn't fit.
+    /// -1230. `None` if a digit other than 0 would be lost, for NaN, and if it doesn't fit. It is
+    /// exact of the number, not of a text whose digits were cut.
     pub fn as_exact_fixed_point_i64(&self, point: u16) -> Option<i64>
         ensures number { SomeWhere (exact_fixed_point self.now point) (FitsSigned w64) result }
         ensures equal { IfSome result (λ n. point ≤ 32768

@@ -1,7 +1,7 @@
 //! What is in a value.
 
 use crate::cookbook::building::{Server, Shape};
-use jzon::{Error, JsonValue, Result, View};
+use jzon::{Error, JsonValue, Reading, Result, View};
 use std::alloc::{AllocError, AllocFailed, Global};
 use std::collections::BTreeMap;
 use std::fmt;
@@ -215,6 +215,11 @@ pub fn shape_of(value: &JsonValue) -> Option<Shape> {
 /// The integer that a number is, however it is written: `100`, `1e2` or `100.0`.
 pub fn integer(value: &JsonValue) -> Option<u64> {
     value.as_exact_fixed_point_u64(0)
+}
+
+/// The value of a text, if each number in it is exact.
+pub fn parse_exactly(alloc: Global, text: &str) -> Result<JsonValue> {
+    jzon::parse_as(alloc, text, &Reading::USUAL.with_exact_numbers())
 }
 
 /// A price in cents. `None` if it has parts of a cent, is no number, or is missing.

@@ -107,7 +107,7 @@ impl JsonValue {
 
     /// As `as_fixed_point_u64`, and `None` if a digit other than 0 would be cut: with 2, `5.990` is
     /// 599, and `5.999` is `None`. With 0 it is the integer that a number is, however it is
-    /// written.
+    /// written. Digits that `parse` cut don't count; only an exact reading rejects them.
     ///
     /// ```rust
     /// value.as_exact_fixed_point_u64(0)   // Some(100) of 100, 1e2 and 100.0
@@ -119,7 +119,8 @@ impl JsonValue {
         self.as_number()?.as_exact_fixed_point_u64(point)
     }
 
-    /// As `as_fixed_point_i64`, and `None` if a digit other than 0 would be cut.
+    /// As `as_fixed_point_i64`, and `None` if a digit other than 0 would be cut. Digits that `parse`
+    /// cut don't count; only an exact reading rejects them.
     ///
     /// ```rust
     /// order.at("price").as_exact_fixed_point_i64(2)   // Some(1999) of 19.99

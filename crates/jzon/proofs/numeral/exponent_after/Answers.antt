@@ -9,7 +9,7 @@ pub returns : goal.returns
 returns c =
     let text = c.args.source.now in
     let start = c.args.start in
-    let digits = c.digits_at.result.0.now in
+    let digits = c.exponent_digits-number.result.0.now in
     let sign = c.match-byte_at in
     let k : ReadsExponent text start sign.is_positive.0 digits (sign.is_positive.1 + length digits) =
     elim sign.branch [
@@ -17,17 +17,25 @@ returns c =
           let here : get_or text start 0 ≡ 45 = sym c.byte_at.ensures ∙ w.in-45.is in
           subst (λ (p : Bool × ℕ). ReadsExponent text start p.0 digits (p.1 + length digits)) (sym w.is_positive-is)
           (reads_minus text start digits c.utf8.source c.requires (byte_within text start 45 here (lit< tt)) here
-          (c.digits_at.ensures.digits ∙ ap (λ (p : Bool × ℕ). take_while is_ascii_digit (drop p.1 text)) w.is_positive-is))
+          (c.exponent_digits-number.ensures.digits ∙ ap (λ (p : Bool × ℕ). take_while is_ascii_digit (drop p.1 text)) w.is_positive-is))
       | in-43 w ↦
           let here : get_or text start 0 ≡ 43 = sym c.byte_at.ensures ∙ w.in-43.is in
           subst (λ (p : Bool × ℕ). ReadsExponent text start p.0 digits (p.1 + length digits)) (sym w.is_positive-is)
           (reads_plus text start digits c.utf8.source c.requires (byte_within text start 43 here (lit< tt)) here
-          (c.digits_at.ensures.digits ∙ ap (λ (p : Bool × ℕ). take_while is_ascii_digit (drop p.1 text)) w.is_positive-is))
+          (c.exponent_digits-number.ensures.digits ∙ ap (λ (p : Bool × ℕ). take_while is_ascii_digit (drop p.1 text)) w.is_positive-is))
       | in_default w ↦
           subst (λ (p : Bool × ℕ). ReadsExponent text start p.0 digits (p.1 + length digits)) (sym w.is_positive-is)
           (reads_unsigned text start digits c.utf8.source c.requires
           (λ h. absurd (grind (arith, h.1, c.byte_at.ensures, w.in_default)))
           (λ h. absurd (grind (arith, h.1, c.byte_at.ensures, w.in_default)))
-          (c.digits_at.ensures.digits ∙ ap (λ (p : Bool × ℕ). take_while is_ascii_digit (drop p.1 text)) w.is_positive-is))
+          (c.exponent_digits-number.ensures.digits ∙ ap (λ (p : Bool × ℕ). take_while is_ascii_digit (drop p.1 text)) w.is_positive-is))
     ] in
-    record { end = (k.after, k.boundary.0, k.boundary); digits = k.all; number = k.number; missing = k.missing }
+    record {
+      end = (k.after, k.boundary.0, k.boundary);
+      digits = k.all;
+      written = c.exponent_digits-number.ensures.number;
+      number = k.number;
+      missing = k.missing;
+      leaves = k.leaves;
+      room = k.room;
+    }

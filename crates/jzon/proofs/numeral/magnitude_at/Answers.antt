@@ -1,5 +1,5 @@
 use Rattle.jzon_base.proofs.Common.{◌∙◌, sym, refl, ap, [], ◌+◌, ◌%◌, ◌^◌, length, false, true≢false, All-nil}
-use Rattle.jzon_base.proofs.Common.{fold-append}
+use Rattle.jzon_base.proofs.Common.{fold-append, arith}
 use Rattle.std.proofs.lemmas.List.{append-nil}
 use Rattle.jzon_base.specs.Digits.{IsDigit, add_digit, digits_number}
 use Rattle.jzon.proofs.Numbers.Magnitudes.{WholeStands, whole_stands, ReadsMagnitude, reads_whole_alone}
@@ -21,6 +21,7 @@ invariant_of-result c =
       fraction_digits = All-nil IsDigit;
       added_up = rw append-nil c.before_point-before.ensures.number;
       exponent_digits = All-nil IsDigit;
+      written_up = refl;
     }
 
 pub returns-then-not-has_byte : goal.returns-then-not-has_byte
@@ -32,11 +33,13 @@ returns-then-not-has_byte c =
     (λ h. true≢false (sym (c.has_byte.ensures.1 h) ∙ c.if-not-has_byte.true)) in
     record {
       end = (k.after, k.boundary.0, k.boundary);
+      room = omega arith;
       exponent = (refl, refl);
       letter = k.to_letter;
       number = k.to_end;
       missing = k.stops;
       too_many = k.refuses;
+      loses = k.loses;
     }
 
 -- with a point
@@ -54,6 +57,7 @@ invariant_of-result-2 c =
           c.before_point-before.ensures.number ∙ ap (λ n. n % 2 ^ 64)
           (sym (fold-append add_digit 0 c.before_point-before.result.0.now fraction));
       exponent_digits = All-nil IsDigit;
+      written_up = refl;
     }
 
 pub returns : goal.returns
@@ -69,9 +73,11 @@ returns c =
     whole refl here.0 here.1 c.digits_at-number.ensures.digits) in
     record {
       end = (k.after, k.boundary.0, k.boundary);
+      room = omega arith;
       exponent = (refl, refl);
       letter = k.to_letter;
       number = k.to_end;
       missing = k.stops;
       too_many = k.refuses;
+      loses = k.loses;
     }

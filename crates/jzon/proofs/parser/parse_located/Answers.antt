@@ -1,5 +1,4 @@
-use Rattle.jzon_base.proofs.Common.{Ok, Err, chars, sym, subst, ◌≡◌}
-use Rattle.jzon.specs.Located.{IsLocated}
+use Rattle.jzon_base.proofs.Common.{Ok, chars}
 use Rattle.jzon.proofs.Texts.Answers.{answers_of, readable_of}
 use Rattle.jzon.proofs.Texts.LocatedErrors.{located_of}
 use Rattle.jzon.proofs.parser.parse_located.Goals as goal

@@ -1,4 +1,4 @@
-use Rattle.jzon_base.proofs.Common.{◌≡◌, ◌∙◌, Err, inl, inr, refl, sym, ap, subst, cond, lit<, chars, true≢false}
+use Rattle.jzon_base.proofs.Common.{◌≡◌, Bool, ◌∙◌, Err, inl, inr, refl, sym, ap, subst, cond, lit<, chars, true≢false}
 use Rattle.jzon_base.proofs.Common.{err_from_is_err_and}
 use Rattle.jzon_tree.specs.View.{view}
 use Rattle.jzon.specs.Answer.{TakesMemory}
@@ -27,8 +27,8 @@ takes_memory t Object e =
 
 -- ---- a primitive
 
-begins : (t : Cursor) → MayBegin t.reading no_frames t.source.now t.index
-begins t = record { shallow = refl; no_space = t.past_whitespace; no_end = λ f. absurd (true≢false (sym f)) }
+begins : (t : Cursor) (exact : Bool) → t.reading.exact ≡ exact → MayBegin t.reading no_frames t.source.now t.index exact
+begins t exact same = record { exactness = same; shallow = refl; no_space = t.past_whitespace; no_end = λ f. absurd (true≢false (sym f)) }
 
 pub returns-in_err-end-clause-outcome : goal.returns-in_err-end-clause-outcome
 returns-in_err-end-clause-outcome c =
@@ -36,10 +36,10 @@ returns-in_err-end-clause-outcome c =
     let bytes = c.args.source.now in
     let past = c.new-cursor.ensures in
     let failed = err_from_is_err_and c.from_residual.result c.from_residual.ensures.1 in
-    subst (λ z. Reads bytes z (from c.args.reading bytes (before no_frames) 0)) (sym failed.1)
-    (reads_from bytes (from c.args.reading bytes (before no_frames) 0) t (before no_frames) (Err failed.0)
+    subst (λ z. Reads bytes z (from c.args.reading.now bytes (before no_frames) 0)) (sym failed.1)
+    (reads_from bytes (from c.args.reading.now bytes (before no_frames) 0) t (before no_frames) (Err failed.0)
     past.text (past.same (before no_frames) refl)
-    (rw failed.2 (c.in_err-end.ensures.outcome.1 t.reading no_frames (begins t))))
+    (rw failed.2 (c.in_err-end.ensures.outcome.1 t.reading no_frames (begins t c.args.reading.now.exact (ap (λ r. r.exact) past.reading)))))
 
 pub returns-in_err-end-clause-memory : goal.returns-in_err-end-clause-memory
 returns-in_err-end-clause-memory c e =
@@ -58,7 +58,7 @@ returns-in_default-clause-outcome c =
     let past = c.new-cursor.ensures in
     let put = c.in_ok-end.ensures.outcome in
     let read = token_goes t u (before no_frames) (after_value no_frames (view put.0)) c.in_ok-end.end
-    c.go_to.ensures c.in_ok-end.ensures.end.0 refl (put.2 t.reading no_frames (begins t)) in
+    c.go_to.ensures c.in_ok-end.ensures.end.0 refl (put.2 t.reading no_frames (begins t c.args.reading.now.exact (ap (λ r. r.exact) past.reading))) in
     reads_from _ _ u (after_value no_frames (view c.put_primitive.new.target)) c.expect_end.result
     (read.0.text ∙ past.text)
     (past.same (before no_frames) refl ∙ read.1 ∙ ap (λ v. left u (after_value no_frames (view v))) (sym put.1))
@@ -73,8 +73,8 @@ returns-in_err-open_container-clause-outcome c =
     let past = c.new-cursor.ensures in
     let failed = err_from_is_err_and c.from_residual-in_err-open_container.result
     c.from_residual-in_err-open_container.ensures.1 in
-    subst (λ z. Reads bytes z (from c.args.reading bytes (before no_frames) 0)) (sym failed.1)
-    (reads_from bytes (from c.args.reading bytes (before no_frames) 0) t (before no_frames) (Err failed.0)
+    subst (λ z. Reads bytes z (from c.args.reading.now bytes (before no_frames) 0)) (sym failed.1)
+    (reads_from bytes (from c.args.reading.now bytes (before no_frames) 0) t (before no_frames) (Err failed.0)
     past.text (past.same (before no_frames) refl)
     (rw failed.2 (c.in_err-open_container.ensures.outcome no_frames refl refl)))
 
@@ -106,7 +106,7 @@ returns-clause-outcome c =
     (read.0.text ∙ past.text)
     (past.same (before no_frames) refl ∙ read.1
     ∙ ap (λ z. left u (cond z (after_value no_frames (empty_container b)) (after_opener b no_frames))) c.if-branch.false
-    ∙ ap (left u) (sym (before_first c.args.reading.strict b)) ∙ ap (λ s. left u (before_item s)) (sym c.in_ok-stacks.ensures.ok))
+    ∙ ap (left u) (sym (before_first c.args.reading.now.strict b)) ∙ ap (λ s. left u (before_item s)) (sym c.in_ok-stacks.ensures.ok))
     c.read_to_end.ensures
 
 pub returns-clause-memory : goal.returns-clause-memory

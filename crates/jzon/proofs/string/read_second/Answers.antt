@@ -1,4 +1,4 @@
-use Rattle.jzon_base.proofs.Common.{◌≡◌, ◌+◌, ◌++◌, ◌∙◌, ◌&&◌, false, refl, ap, sym, subst, arith, drop, encode_utf8}
+use Rattle.jzon_base.proofs.Common.{◌≡◌, ◌+◌, ◌++◌, ◌∙◌, ◌&&◌, false, ap, sym, subst, arith, drop, encode_utf8}
 use Rattle.jzon_base.proofs.Common.{IsCharBoundary, chars, false_from_ne_true, iff_false, err_from_is_err_and}
 use Rattle.jzon_base.proofs.Common.{IsCharBoundary-after_ascii}
 use Rattle.jzon.specs.Spelling.{pair}

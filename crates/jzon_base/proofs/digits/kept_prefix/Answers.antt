@@ -1,8 +1,30 @@
 use Rattle.jzon_base.proofs.Common.{◌≡◌, ◌+◌, ◌∙◌, ◌++◌, take, length, arith, ap, sym}
-use Rattle.jzon_base.proofs.Common.{take-append-le, take_all}
-use Rattle.jzon_base.specs.Digits.{digits_number, kept_len}
-use Rattle.jzon_base.proofs.Numbers.DigitPrefixes.{kept_len-within_whole, kept_len-past_whole, digits_number-take-append}
+use Rattle.jzon_base.proofs.Common.{take-append-le, take_all, All-take, length-take, cases_lt, inl, inr}
+use Rattle.jzon_base.specs.Digits.{IsDigit, digits_number, kept_len}
+use Rattle.jzon_base.proofs.Numbers.DigitPrefixes.{few_fit, few_after, kept_len-within_whole, kept_len-past_whole, digits_number-take-append}
 use Rattle.jzon_base.proofs.digits.kept_prefix.Goals as goal
+
+pub longest_prefix-number-requires-clause-sure : goal.longest_prefix-number-requires-clause-sure
+longest_prefix-number-requires-clause-sure c =
+    few_fit (take c.min-sure.result c.args.whole.now)
+    (All-take IsDigit c.min-sure.result c.args.whole.now c.requires.whole)
+    (omega (arith, length-take c.min-sure.result c.args.whole.now, c.min-sure.ensures))
+
+pub longest_prefix-number-requires-2-clause-sure : goal.longest_prefix-number-requires-2-clause-sure
+longest_prefix-number-requires-2-clause-sure c =
+    let first = c.longest_prefix-number.ensures in
+    let all : take c.longest_prefix-number.result.1 c.args.whole.now
+    ≡ c.args.whole.now = take_all _ _ (c.if-count-whole.false) in
+    let value : c.longest_prefix-number.result.0 ≡ digits_number c.args.whole.now = first.number
+    ∙ ap digits_number all in
+    elim (cases_lt (length c.args.whole.now) 20) [
+      | inl few ↦
+          rw value (few_after c.args.whole.now c.args.fraction.now c.min-sure-2.result c.requires.whole
+          c.requires.fraction (omega (arith, c.min-sure-2.ensures)) (omega (arith, c.min-sure.ensures, c.min-sure-2.ensures)))
+      | inr many ↦
+          (let none : c.min-sure-2.result ≡ 0 = omega (arith, c.min-sure.ensures, c.min-sure-2.ensures) in
+          rw none first.fits)
+    ]
 
 pub returns-then-count-whole : goal.returns-then-count-whole
 returns-then-count-whole c =

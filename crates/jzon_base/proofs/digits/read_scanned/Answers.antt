@@ -1,23 +1,71 @@
-use Rattle.jzon_base.proofs.Common.{◌≡◌, ◌≤◌, ◌∙◌, ◌++◌, length, length-append, arith, ints, clamps, ap₂, ◌-◌, take_all}
-use Rattle.jzon_base.proofs.Common.{All, All-append, mod-eq_of_lt}
-use Rattle.jzon_base.specs.Decimal.{parts}
-use Rattle.jzon_base.specs.Digits.{IsDigit, kept_len}
-use Rattle.jzon_base.proofs.Numbers.DigitPrefixes.{few_fit, few_kept}
+use Rattle.jzon_base.proofs.Common.{◌≡◌, ◌∙◌, ◌%◌, ◌^◌, ◌≤◌, ◌<◌, sym, ℕ, List, pos, ◌-ℤ◌, ◌+ℤ◌, arith, ints, clamps, length, eqb-true, All, to_z, of_z, w16}
+use Rattle.jzon_base.proofs.Common.{mod-eq_of_lt}
+use Rattle.jzon_base.specs.Digits.{IsDigit, digits_number}
+use Rattle.jzon_base.proofs.Numbers.DigitPrefixes.{below_ten_to}
+use Rattle.jzon_base.proofs.Numbers.LostDigits.{FewDigits, few_digits, few_outcome, signed_none}
 use Rattle.jzon_base.proofs.digits.read_scanned.Goals as goal
 
-pub returns-then-whole-fraction-le-ALWAYS_KEPT : goal.returns-then-whole-fraction-le-ALWAYS_KEPT
-returns-then-whole-fraction-le-ALWAYS_KEPT c =
-    let whole = c.args.whole.now in
-    let fraction = c.args.fraction.now in
-    let ds = whole ++ fraction in
-    let all : All IsDigit ds = All-append IsDigit whole fraction c.requires.whole c.requires.fraction in
-    let few : length ds ≤ 19 = omega (arith, length-append whole fraction) in
-    let e : kept_len ds ≡ length ds = few_kept ds all few in
-    let none : length whole - length ds ≡ 0 = omega (arith, length-append whole fraction) in
-    let all_kept : length ds - length whole ≡ length fraction = omega (arith, length-append whole fraction) in (
-      (omega (arith, e, none), omega (arith, e, all_kept)),
-      rw (e, take_all (length ds) ds (omega arith), none, all_kept)
-          (c.from_parts_unchecked.ensures
-          ∙ ap₂ (parts c.args.positive) (c.requires.number ∙ mod-eq_of_lt (few_fit ds all few))
-          (omega (arith, ints, clamps, c.clamped_exponent-exponent.ensures))),
-    )
+pub returns-then-is_empty : goal.returns-then-is_empty
+returns-then-is_empty c =
+    let k : FewDigits c.args.whole.now c.args.fraction.now = few_digits c.args.whole.now c.args.fraction.now c.requires.whole
+    c.requires.fraction c.if-whole-fraction-gt-ALWAYS_KEPT.false in
+    let empty : length c.args.exponent.now ≡ 0 = eqb-true _ 0 (sym c.is_empty.ensures ∙ c.if-is_empty.true) in
+    let none = signed_none c.args.positive_exponent c.args.exponent.now empty in
+    let outcome = few_outcome c.args.positive_exponent c.args.whole.now c.args.fraction.now c.args.exponent.now
+    c.args.number (to_z w16 (of_z w16 (pos 0 -ℤ to_z w16 (length c.args.fraction.now)))) k
+    c.if-whole-fraction-gt-ALWAYS_KEPT.false c.requires.number
+    (rw none (omega (arith, ints, clamps, c.if-whole-fraction-gt-ALWAYS_KEPT.false)))
+    (omega (arith, ints, clamps, c.if-whole-fraction-gt-ALWAYS_KEPT.false)) in
+    record { readable = outcome.0; number = outcome.1 }
+
+-- so few digits of an exponent spell a small number
+exact_exponent : (ds : List ℕ) (written : ℕ) → All IsDigit ds → length ds ≤ 4 → written ≡ digits_number ds % 2 ^ 64
+    → (written ≡ digits_number ds) × (written < 10000)
+exact_exponent ds written all few e =
+    let below : digits_number ds < 10 ^ 4 = below_ten_to 4 ds all few in
+    let same : written ≡ digits_number ds = e ∙ mod-eq_of_lt (omega (arith, below)) in
+    (same, omega (arith, same, below))
+
+pub overflow_cast-written : goal.overflow_cast-written
+overflow_cast-written c =
+    let k = exact_exponent c.args.exponent.now c.args.written c.requires.exponent c.if-exponent-gt-NEVER_CLAMPED.false
+    c.requires.written in
+    omega (arith, ints, k.1)
+
+pub overflow_add-sum : goal.overflow_add-sum
+overflow_add-sum c =
+    let k = exact_exponent c.args.exponent.now c.args.written c.requires.exponent c.if-exponent-gt-NEVER_CLAMPED.false
+    c.requires.written in
+    omega (arith, ints, k.1, c.if-whole-fraction-gt-ALWAYS_KEPT.false)
+
+pub overflow_sub-sum : goal.overflow_sub-sum
+overflow_sub-sum c =
+    let k = exact_exponent c.args.exponent.now c.args.written c.requires.exponent c.if-exponent-gt-NEVER_CLAMPED.false
+    c.requires.written in
+    omega (arith, ints, k.1, c.if-whole-fraction-gt-ALWAYS_KEPT.false)
+
+pub returns-then-positive_exponent : goal.returns-then-positive_exponent
+returns-then-positive_exponent c =
+    let k = exact_exponent c.args.exponent.now c.args.written c.requires.exponent c.if-exponent-gt-NEVER_CLAMPED.false
+    c.requires.written in
+    let few = c.if-whole-fraction-gt-ALWAYS_KEPT.false in
+    let outcome = few_outcome c.args.positive_exponent c.args.whole.now c.args.fraction.now c.args.exponent.now
+    c.args.number
+    (to_z w16 (of_z w16 (to_z w16 (of_z w16 (pos 0 -ℤ to_z w16 (length c.args.fraction.now))) +ℤ to_z w16 c.args.written)))
+    (few_digits c.args.whole.now c.args.fraction.now c.requires.whole c.requires.fraction few) few c.requires.number
+    (rw c.if-positive_exponent.true (omega (arith, ints, clamps, few, k.0, k.1)))
+    (omega (arith, ints, clamps, few, k.1)) in
+    record { readable = outcome.0; number = outcome.1 }
+
+pub returns-else-positive_exponent : goal.returns-else-positive_exponent
+returns-else-positive_exponent c =
+    let k = exact_exponent c.args.exponent.now c.args.written c.requires.exponent c.if-exponent-gt-NEVER_CLAMPED.false
+    c.requires.written in
+    let few = c.if-whole-fraction-gt-ALWAYS_KEPT.false in
+    let outcome = few_outcome c.args.positive_exponent c.args.whole.now c.args.fraction.now c.args.exponent.now
+    c.args.number
+    (to_z w16 (of_z w16 (to_z w16 (of_z w16 (pos 0 -ℤ to_z w16 (length c.args.fraction.now))) -ℤ to_z w16 c.args.written)))
+    (few_digits c.args.whole.now c.args.fraction.now c.requires.whole c.requires.fraction few) few c.requires.number
+    (rw c.if-positive_exponent.false (omega (arith, ints, clamps, few, k.0, k.1)))
+    (omega (arith, ints, clamps, few, k.1)) in
+    record { readable = outcome.0; number = outcome.1 }

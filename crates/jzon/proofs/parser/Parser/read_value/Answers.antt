@@ -1,6 +1,7 @@
 use Rattle.jzon_base.proofs.Common.{◌≡◌, ◌≢◌, ◌∙◌, ◌<◌, refl, ap, sym, arith, cond, true, length}
 use Rattle.jzon_base.specs.Tokens.{end_array}
 use Rattle.jzon_tree.specs.View.{view}
+use Rattle.jzon.specs.Reading.{Reading}
 use Rattle.jzon.specs.Private.Brackets.{empty_container, after_opener}
 use Rattle.jzon.specs.Private.Cursor.{left, next_byte}
 use Rattle.jzon.specs.Private.Machine.{before, after_value, is_fresh}
@@ -101,17 +102,17 @@ returns-in-Some-clause-outcome c =
 
 -- ---- a primitive
 
-begins : (t : Cursor) (s : OpenContainers) → length s.around < t.reading.depth
+begins : (t : Cursor) (s : OpenContainers) (r : Reading) → t.reading ≡ r → length s.around < t.reading.depth
     → (is_fresh (frames_here s) ≡ true → next_byte t ≢ end_array)
-    → MayBegin t.reading (frames_here s) t.source.now t.index
-begins t s room some = record { shallow = no_mark t s room; no_space = t.past_whitespace; no_end = some }
+    → MayBegin t.reading (frames_here s) t.source.now t.index r.exact
+begins t s r same room some = record { exactness = ap (λ r. r.exact) same; shallow = no_mark t s room; no_space = t.past_whitespace; no_end = some }
 
 pub returns-in_err-end-clause-outcome : goal.returns-in_err-end-clause-outcome
 returns-in_err-end-clause-outcome c =
     let t = c.args.self.now.cursor in
     let s = c.args.self.now.stacks in
     fails_on _ c.from_residual-in_err-end.result _ c.from_residual-in_err-end.ensures.1 reached_start
-    (c.in_err-end.ensures.outcome.1 t.reading (frames_here s) (begins t s c.requires.room c.requires.some))
+    (c.in_err-end.ensures.outcome.1 t.reading (frames_here s) (begins t s c.args.reading.now c.requires.reading c.requires.room c.requires.some))
 
 pub returns-in_err-container_ends-2-clause-outcome : goal.returns-in_err-container_ends-2-clause-outcome
 returns-in_err-container_ends-2-clause-outcome c =
@@ -121,7 +122,7 @@ returns-in_err-container_ends-2-clause-outcome c =
     fails_on _ c.from_residual-in_err-container_ends-2.result _ c.from_residual-in_err-container_ends-2.ensures.1
     reached_start
     (c.in_err-container_ends-2.ensures (before (frames_here s)) (frames_here s) (view read.0)
-    (kind_here s c.args.container c.requires.kind) (read.2 t.reading (frames_here s) (begins t s c.requires.room c.requires.some)))
+    (kind_here s c.args.container c.requires.kind) (read.2 t.reading (frames_here s) (begins t s c.args.reading.now c.requires.reading c.requires.room c.requires.some)))
 
 pub returns-then-branch-2-clause-outcome : goal.returns-then-branch-2-clause-outcome
 returns-then-branch-2-clause-outcome c =
@@ -131,7 +132,7 @@ returns-then-branch-2-clause-outcome c =
     ended_here t _ (before (frames_here s)) s _ read.0 _
     (awaits_here s c.args.container c.requires.kind c.requires.awaits) read.1 c.if-branch-2.true
     (c.in_ok-container_ends-2.ensures (before (frames_here s)) (frames_here s) (view read.0)
-    (kind_here s c.args.container c.requires.kind) (read.2 t.reading (frames_here s) (begins t s c.requires.room c.requires.some)))
+    (kind_here s c.args.container c.requires.kind) (read.2 t.reading (frames_here s) (begins t s c.args.reading.now c.requires.reading c.requires.room c.requires.some)))
 
 pub returns-clause-kept : goal.returns-clause-kept
 returns-clause-kept c =
@@ -144,7 +145,7 @@ returns-clause-after c =
     let s = c.args.self.now.stacks in
     let read = c.in_ok-end.ensures.outcome in
     let ends = c.in_ok-container_ends-2.ensures (before (frames_here s)) (frames_here s) (view read.0)
-    (kind_here s c.args.container c.requires.kind) (read.2 t.reading (frames_here s) (begins t s c.requires.room c.requires.some)) in
+    (kind_here s c.args.container c.requires.kind) (read.2 t.reading (frames_here s) (begins t s c.args.reading.now c.requires.reading c.requires.room c.requires.some)) in
     added_before _ s _ read.0 (awaits_here s c.args.container c.requires.kind c.requires.awaits) read.1
     (omega (arith, c.requires.room, ap (λ r. r.depth) ends.0.reading))
 
@@ -156,4 +157,4 @@ returns-clause-outcome c =
     goes_to_item t _ (before (frames_here s)) s _ read.0 _
     (awaits_here s c.args.container c.requires.kind c.requires.awaits) read.1 c.if-branch-2.false
     (c.in_ok-container_ends-2.ensures (before (frames_here s)) (frames_here s) (view read.0)
-    (kind_here s c.args.container c.requires.kind) (read.2 t.reading (frames_here s) (begins t s c.requires.room c.requires.some)))
+    (kind_here s c.args.container c.requires.kind) (read.2 t.reading (frames_here s) (begins t s c.args.reading.now c.requires.reading c.requires.room c.requires.some)))
