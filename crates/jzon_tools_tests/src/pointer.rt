@@ -1,10 +1,12 @@
 //! Tests of `pointer`.
 
 use crate::common::{Tested, Tester, expect, expect_dump, expect_eq};
+use Change::{GetMut, Insert, Remove, Replace};
 use jzon::JsonValue;
-use jzon_test_support::{RUNS_MAX, Refusals};
-use jzon_tools::pointer::PointerError::Missing;
-use jzon_tools::pointer::{self, PointerError, Reason};
+use jzon_test_support::{RUNS_MAX, Refusals, rows};
+use jzon_tools::pointer::PointerError::{Missing, NoSlash, WholeValue};
+use jzon_tools::pointer::Reason::{BadEscape, NoChildren, NoMember, NotAnIndex, OutOfRange};
+use jzon_tools::pointer::{self, PointerError};
 use std::test::Fail;
 
 /// The text of RFC 6901, section 5.
@@ -12,161 +14,47 @@ const TEXT: &str =
     r#"{"foo":["bar","baz"],"":0,"a/b":1,"c%d":2,"e^f":3,"g|h":4,"i\\j":5,"k\"l":6," ":7,"m~n":8}"#;
 
 /// The examples of RFC 6901, section 5: a pointer, and the text of what it names. Then more.
-const FOUND: &[(&str, &str)] = &[
-    ("", TEXT),
-    ("/foo", r#"["bar","baz"]"#),
-    ("/foo/0", r#""bar""#),
-    ("/", "0"),
-    ("/a~1b", "1"),
-    ("/c%d", "2"),
-    ("/e^f", "3"),
-    ("/g|h", "4"),
-    ("/i\\j", "5"),
-    ("/k\"l", "6"),
-    ("/ ", "7"),
-    ("/m~0n", "8"),
-    ("/foo/1", r#""baz""#),
-];
+const FOUND: &[(&str, &str)] = rows! {
+    ("", TEXT)
+    ("/foo", r#"["bar","baz"]"#)
+    ("/foo/0", r#""bar""#)
+    ("/", "0")
+    ("/a~1b", "1")
+    ("/c%d", "2")
+    ("/e^f", "3")
+    ("/g|h", "4")
+    ("/i\\j", "5")
+    ("/k\"l", "6")
+    ("/ ", "7")
+    ("/m~0n", "8")
+    ("/foo/1", r#""baz""#)
+};
 
 /// Pointers that name nothing in the text, and why.
-const MISSING: &[(&str, PointerError)] = &[
-    ("a", PointerError::NoSlash),
-    ("foo/0", PointerError::NoSlash),
-    ("#/foo", PointerError::NoSlash),
-    (
-        "/~2",
-        Missing {
-            token: 0,
-            reason: Reason::BadEscape,
-        },
-    ),
-    (
-        "/~",
-        Missing {
-            token: 0,
-            reason: Reason::BadEscape,
-        },
-    ),
-    (
-        "/foo/~",
-        Missing {
-            token: 1,
-            reason: Reason::BadEscape,
-        },
-    ),
-    (
-        "/foo/0/~2/x",
-        Missing {
-            token: 2,
-            reason: Reason::BadEscape,
-        },
-    ),
-    (
-        "/bar",
-        Missing {
-            token: 0,
-            reason: Reason::NoMember,
-        },
-    ),
-    (
-        "/m~n",
-        Missing {
-            token: 0,
-            reason: Reason::BadEscape,
-        },
-    ),
-    (
-        "/m~1n",
-        Missing {
-            token: 0,
-            reason: Reason::NoMember,
-        },
-    ),
-    (
-        "/m~01n",
-        Missing {
-            token: 0,
-            reason: Reason::NoMember,
-        },
-    ),
-    (
-        "/a/b",
-        Missing {
-            token: 0,
-            reason: Reason::NoMember,
-        },
-    ),
-    (
-        "//",
-        Missing {
-            token: 1,
-            reason: Reason::NoChildren,
-        },
-    ),
-    (
-        "/foo/",
-        Missing {
-            token: 1,
-            reason: Reason::NotAnIndex,
-        },
-    ),
-    (
-        "/foo/01",
-        Missing {
-            token: 1,
-            reason: Reason::NotAnIndex,
-        },
-    ),
-    (
-        "/foo/+1",
-        Missing {
-            token: 1,
-            reason: Reason::NotAnIndex,
-        },
-    ),
-    (
-        "/foo/-",
-        Missing {
-            token: 1,
-            reason: Reason::NotAnIndex,
-        },
-    ),
-    (
-        "/foo/1e0",
-        Missing {
-            token: 1,
-            reason: Reason::NotAnIndex,
-        },
-    ),
-    (
-        "/foo/2",
-        Missing {
-            token: 1,
-            reason: Reason::OutOfRange,
-        },
-    ),
-    (
-        "/foo/18446744073709551616",
-        Missing {
-            token: 1,
-            reason: Reason::OutOfRange,
-        },
-    ),
-    (
-        "/foo/0/x",
-        Missing {
-            token: 2,
-            reason: Reason::NoChildren,
-        },
-    ),
-    (
-        "/foo/bar/x",
-        Missing {
-            token: 1,
-            reason: Reason::NotAnIndex,
-        },
-    ),
-];
+const MISSING: &[(&str, PointerError)] = rows! {
+    ("a", NoSlash)
+    ("foo/0", NoSlash)
+    ("#/foo", NoSlash)
+    ("/~2", Missing { token: 0, reason: BadEscape })
+    ("/~", Missing { token: 0, reason: BadEscape })
+    ("/foo/~", Missing { token: 1, reason: BadEscape })
+    ("/foo/0/~2/x", Missing { token: 2, reason: BadEscape })
+    ("/bar", Missing { token: 0, reason: NoMember })
+    ("/m~n", Missing { token: 0, reason: BadEscape })
+    ("/m~1n", Missing { token: 0, reason: NoMember })
+    ("/m~01n", Missing { token: 0, reason: NoMember })
+    ("/a/b", Missing { token: 0, reason: NoMember })
+    ("//", Missing { token: 1, reason: NoChildren })
+    ("/foo/", Missing { token: 1, reason: NotAnIndex })
+    ("/foo/01", Missing { token: 1, reason: NotAnIndex })
+    ("/foo/+1", Missing { token: 1, reason: NotAnIndex })
+    ("/foo/-", Missing { token: 1, reason: NotAnIndex })
+    ("/foo/1e0", Missing { token: 1, reason: NotAnIndex })
+    ("/foo/2", Missing { token: 1, reason: OutOfRange })
+    ("/foo/18446744073709551616", Missing { token: 1, reason: OutOfRange })
+    ("/foo/0/x", Missing { token: 2, reason: NoChildren })
+    ("/foo/bar/x", Missing { token: 1, reason: NotAnIndex })
+};
 
 #[test]
 fn finds(rt: HostRuntime) -> Tested {
@@ -215,10 +103,10 @@ fn changed(
 ) -> Result<JsonValue, PointerError> {
     let new = JsonValue::from(9u8);
     match change {
-        Change::Replace => pointer::replace(value, path, new),
-        Change::Insert => pointer::insert(rt.alloc(), value, path, new).map(|_| JsonValue::Null),
-        Change::Remove => pointer::remove(value, path),
-        Change::GetMut => {
+        Replace => pointer::replace(value, path, new),
+        Insert => pointer::insert(rt.alloc(), value, path, new).map(|_| JsonValue::Null),
+        Remove => pointer::remove(value, path),
+        GetMut => {
             if let Some(place) = pointer::get_mut(value, path) {
                 *place = new;
             }
@@ -228,86 +116,26 @@ fn changed(
 }
 
 /// A change, the value before it, a pointer, what is returned, and the value after it.
-const CHANGES: &[(Change, &str, &str, &str, &str)] = &[
-    (
-        Change::Replace,
-        r#"{"a":[1,{"b":2}]}"#,
-        "/a/1/b",
-        "2",
-        r#"{"a":[1,{"b":9}]}"#,
-    ),
-    (
-        Change::Replace,
-        r#"{"a~/b":[1],"c":2}"#,
-        "/a~0~1b",
-        "[1]",
-        r#"{"a~/b":9,"c":2}"#,
-    ),
-    (
-        Change::Replace,
-        r#"{"c":2,"a/b":[1]}"#,
-        "/a~1b/0",
-        "1",
-        r#"{"c":2,"a/b":[9]}"#,
-    ),
-    (
-        Change::Replace,
-        r#"{"/":1,"~1":2}"#,
-        "/~01",
-        "2",
-        r#"{"/":1,"~1":9}"#,
-    ),
-    (Change::Replace, "[1]", "", "[1]", "9"),
-    (
-        Change::GetMut,
-        r#"{"a":[1,{"b/":2}]}"#,
-        "/a/1/b~1",
-        "null",
-        r#"{"a":[1,{"b/":9}]}"#,
-    ),
-    (
-        Change::Insert,
-        r#"{"a":{"b":1}}"#,
-        "/a/c",
-        "null",
-        r#"{"a":{"b":1,"c":9}}"#,
-    ),
-    (
-        Change::Insert,
-        r#"{"a":{"b":1,"c":2}}"#,
-        "/a/b",
-        "null",
-        r#"{"a":{"b":9,"c":2}}"#,
-    ),
-    (
-        Change::Insert,
-        r#"{"a":1}"#,
-        "/m~0~1n",
-        "null",
-        r#"{"a":1,"m~/n":9}"#,
-    ),
-    (Change::Insert, r#"{"m~":1}"#, "/m~0", "null", r#"{"m~":9}"#),
-    (Change::Insert, "[[1,2]]", "/0/0", "null", "[[9,1,2]]"),
-    (Change::Insert, "[1,2]", "/1", "null", "[1,9,2]"),
-    (Change::Insert, "[1,2]", "/2", "null", "[1,2,9]"),
-    (Change::Insert, "[1,2]", "/-", "null", "[1,2,9]"),
-    (Change::Insert, r#"{"-":1}"#, "/-", "null", r#"{"-":9}"#),
-    (
-        Change::Remove,
-        r#"{"a":{"b":1,"c":2}}"#,
-        "/a/b",
-        "1",
-        r#"{"a":{"c":2}}"#,
-    ),
-    (
-        Change::Remove,
-        r#"{"x":0,"m~n":[1],"m/n":2,"y":3}"#,
-        "/m~0n",
-        "[1]",
-        r#"{"x":0,"m/n":2,"y":3}"#,
-    ),
-    (Change::Remove, "[[1,2,3]]", "/0/1", "2", "[[1,3]]"),
-];
+const CHANGES: &[(Change, &str, &str, &str, &str)] = rows! {
+    (Replace, r#"{"a":[1,{"b":2}]}"#, "/a/1/b", "2", r#"{"a":[1,{"b":9}]}"#)
+    (Replace, r#"{"a~/b":[1],"c":2}"#, "/a~0~1b", "[1]", r#"{"a~/b":9,"c":2}"#)
+    (Replace, r#"{"c":2,"a/b":[1]}"#, "/a~1b/0", "1", r#"{"c":2,"a/b":[9]}"#)
+    (Replace, r#"{"/":1,"~1":2}"#, "/~01", "2", r#"{"/":1,"~1":9}"#)
+    (Replace, "[1]", "", "[1]", "9")
+    (GetMut, r#"{"a":[1,{"b/":2}]}"#, "/a/1/b~1", "null", r#"{"a":[1,{"b/":9}]}"#)
+    (Insert, r#"{"a":{"b":1}}"#, "/a/c", "null", r#"{"a":{"b":1,"c":9}}"#)
+    (Insert, r#"{"a":{"b":1,"c":2}}"#, "/a/b", "null", r#"{"a":{"b":9,"c":2}}"#)
+    (Insert, r#"{"a":1}"#, "/m~0~1n", "null", r#"{"a":1,"m~/n":9}"#)
+    (Insert, r#"{"m~":1}"#, "/m~0", "null", r#"{"m~":9}"#)
+    (Insert, "[[1,2]]", "/0/0", "null", "[[9,1,2]]")
+    (Insert, "[1,2]", "/1", "null", "[1,9,2]")
+    (Insert, "[1,2]", "/2", "null", "[1,2,9]")
+    (Insert, "[1,2]", "/-", "null", "[1,2,9]")
+    (Insert, r#"{"-":1}"#, "/-", "null", r#"{"-":9}"#)
+    (Remove, r#"{"a":{"b":1,"c":2}}"#, "/a/b", "1", r#"{"a":{"c":2}}"#)
+    (Remove, r#"{"x":0,"m~n":[1],"m/n":2,"y":3}"#, "/m~0n", "[1]", r#"{"x":0,"m/n":2,"y":3}"#)
+    (Remove, "[[1,2,3]]", "/0/1", "2", "[[1,3]]")
+};
 
 #[test]
 fn changes(rt: HostRuntime) -> Tested {
@@ -323,93 +151,21 @@ fn changes(rt: HostRuntime) -> Tested {
 }
 
 /// An insertion or a removal that fails.
-const FAILED: &[(Change, &str, &str, PointerError)] = &[
-    (Change::Insert, "[1,2]", "", PointerError::WholeValue),
-    (Change::Insert, "[1,2]", "0", PointerError::NoSlash),
-    (Change::Insert, "[1,2]", "a/0", PointerError::NoSlash),
-    (
-        Change::Insert,
-        "[1,2]",
-        "/3",
-        Missing {
-            token: 0,
-            reason: Reason::OutOfRange,
-        },
-    ),
-    (
-        Change::Insert,
-        "[1,2]",
-        "/01",
-        Missing {
-            token: 0,
-            reason: Reason::NotAnIndex,
-        },
-    ),
-    (
-        Change::Insert,
-        "[1,2]",
-        "/0/-",
-        Missing {
-            token: 1,
-            reason: Reason::NoChildren,
-        },
-    ),
-    (
-        Change::Insert,
-        r#"{"a":{}}"#,
-        "/b/c",
-        Missing {
-            token: 0,
-            reason: Reason::NoMember,
-        },
-    ),
-    (
-        Change::Insert,
-        r#"{"a":{}}"#,
-        "/a/~",
-        Missing {
-            token: 1,
-            reason: Reason::BadEscape,
-        },
-    ),
-    (Change::Remove, "[1,2]", "", PointerError::WholeValue),
-    (
-        Change::Remove,
-        "[1,2]",
-        "/-",
-        Missing {
-            token: 0,
-            reason: Reason::NotAnIndex,
-        },
-    ),
-    (
-        Change::Remove,
-        "[1,2]",
-        "/2",
-        Missing {
-            token: 0,
-            reason: Reason::OutOfRange,
-        },
-    ),
-    (
-        Change::Remove,
-        r#"{"a~":1}"#,
-        "/b~0",
-        Missing {
-            token: 0,
-            reason: Reason::NoMember,
-        },
-    ),
-    (
-        Change::Replace,
-        r#"{"a~":1}"#,
-        "/a~2",
-        Missing {
-            token: 0,
-            reason: Reason::BadEscape,
-        },
-    ),
-];
+const FAILED: &[(Change, &str, &str, PointerError)] = rows! {
+    (Insert, "[1,2]", "", WholeValue)
+    (Insert, "[1,2]", "0", NoSlash)
+    (Insert, "[1,2]", "a/0", NoSlash)
+    (Insert, "[1,2]", "/3", Missing { token: 0, reason: OutOfRange })
+    (Insert, "[1,2]", "/01", Missing { token: 0, reason: NotAnIndex })
+    (Insert, "[1,2]", "/0/-", Missing { token: 1, reason: NoChildren })
+    (Insert, r#"{"a":{}}"#, "/b/c", Missing { token: 0, reason: NoMember })
+    (Insert, r#"{"a":{}}"#, "/a/~", Missing { token: 1, reason: BadEscape })
+    (Remove, "[1,2]", "", WholeValue)
+    (Remove, "[1,2]", "/-", Missing { token: 0, reason: NotAnIndex })
+    (Remove, "[1,2]", "/2", Missing { token: 0, reason: OutOfRange })
+    (Remove, r#"{"a~":1}"#, "/b~0", Missing { token: 0, reason: NoMember })
+    (Replace, r#"{"a~":1}"#, "/a~2", Missing { token: 0, reason: BadEscape })
+};
 
 #[test]
 fn changes_nothing_after_an_error(rt: HostRuntime) -> Tested {
@@ -436,49 +192,16 @@ fn updates(rt: HostRuntime) -> Tested {
 }
 
 /// The words of each error.
-const WORDS: &[(PointerError, &str)] = &[
-    (PointerError::NoSlash, "The pointer begins with no /"),
-    (
-        Missing {
-            token: 2,
-            reason: Reason::BadEscape,
-        },
-        "Token 2: ~ without 0 or 1 after it",
-    ),
-    (
-        Missing {
-            token: 0,
-            reason: Reason::NoMember,
-        },
-        "Token 0: no such key",
-    ),
-    (
-        Missing {
-            token: 1,
-            reason: Reason::NotAnIndex,
-        },
-        "Token 1: not an index",
-    ),
-    (
-        Missing {
-            token: 1,
-            reason: Reason::OutOfRange,
-        },
-        "Token 1: index out of range",
-    ),
-    (
-        Missing {
-            token: 1,
-            reason: Reason::NoChildren,
-        },
-        "Token 1: neither an array nor an object",
-    ),
-    (
-        PointerError::WholeValue,
-        "The pointer names the whole value",
-    ),
-    (PointerError::OutOfMemory, "Out of memory"),
-];
+const WORDS: &[(PointerError, &str)] = rows! {
+    (NoSlash, "The pointer begins with no /")
+    (Missing { token: 2, reason: BadEscape }, "Token 2: ~ without 0 or 1 after it")
+    (Missing { token: 0, reason: NoMember }, "Token 0: no such key")
+    (Missing { token: 1, reason: NotAnIndex }, "Token 1: not an index")
+    (Missing { token: 1, reason: OutOfRange }, "Token 1: index out of range")
+    (Missing { token: 1, reason: NoChildren }, "Token 1: neither an array nor an object")
+    (WholeValue, "The pointer names the whole value")
+    (PointerError::OutOfMemory, "Out of memory")
+};
 
 #[test]
 fn shows_errors(rt: HostRuntime) -> Tested {
@@ -491,13 +214,13 @@ fn shows_errors(rt: HostRuntime) -> Tested {
 
 /// A value, where 9 is inserted, and the number of allocations. A full vector grows; a key of more
 /// than 32 bytes is allocated, and so is one that had an escape.
-const ALLOCATING: &[(&str, &str, usize)] = &[
-    ("[1]", "/-", 1),
-    ("{}", "/a", 3),
-    (r#"{"a":[]}"#, "/a/0", 1),
-    ("{}", "/a~0", 4),
-    (r#"{"a~":1}"#, "/a~0", 1),
-];
+const ALLOCATING: &[(&str, &str, usize)] = rows! {
+    ("[1]", "/-", 1)
+    ("{}", "/a", 3)
+    (r#"{"a":[]}"#, "/a/0", 1)
+    ("{}", "/a~0", 4)
+    (r#"{"a~":1}"#, "/a~0", 1)
+};
 
 /// One run. Whether an allocation failed: then the value is as it was.
 fn run(
