@@ -37,5 +37,6 @@ pub mod FaultOffsets
 pub mod ReportedErrors
 pub mod LocatedErrors
 pub mod Cursors
+pub mod ByteCounts
 pub mod Columns
 pub mod TrailingWhitespace

@@ -2,6 +2,7 @@
 pub mod Classes
 pub mod Quote
 pub mod Stops
+pub mod Lines
 pub mod Machine
 pub mod Targets
 pub mod Numerals

@@ -1,15 +1,20 @@
 //! Why the parser stops before the end of a text, and the error with line and column that is
 //! returned for it (docs/RULES.md, "Which error is reported").
 
-ghost use Rattle.std.specs.Prelude.{◌≡◌, ◌+◌, drop, chars};
+ghost use Rattle.std.specs.Prelude.{◌≡◌, ◌+◌, ◌≤◌, count_by, drop, chars, length, take};
 ghost use Rattle.std.specs.Str.{IsCharBoundary};
 ghost use Rattle.jzon.specs.Fault.{line, column};
 ghost use Rattle.jzon.specs.Private.Machine.{Reports, fault_here};
-ghost use Rattle.jzon.specs.Private.Stops.{IsAtBoundary, reported_error, stop_place};
+ghost use Rattle.jzon.specs.Private.Lines.{is_below};
+ghost use Rattle.jzon.specs.Private.Stops.{IsAtBoundary, place_at, reported_error, stop_place};
 
 use crate::located::{LocatedError, Place};
 use jzon_base::error::Error;
 use std::alloc::AllocError;
+use std::simd::prelude::*;
+
+/// How many bytes are compared at once.
+const LANES: usize = 16;
 
 /// Why the parser stops. Its functions return this in place of an `Error`, which is made at the
 /// end: a result that may hold an `Error` has 40 bytes or more, which are cleared each time that
@@ -47,72 +52,124 @@ impl From<AllocError> for Stop {
 }
 
 impl Stop {
-    /// The error that is returned for it, with the line and column of its offset.
+    /// The error that is returned for it.
+    #[cold]
+    #[inline(never)]
     pub(crate) fn error(self, source: &str) -> Error
         requires { IsAtBoundary source.now self }
         ensures { result ≡ reported_error source.now self }
     {
-        match self {
-            Stop::Memory => Error::OutOfMemory,
-            Stop::Limit(_) => Error::ExceededDepthLimit,
-            Stop::Surrogates(_) => Error::FailedUtf8Parsing,
-            Stop::At(index) => match source[index..].chars().next() {
-                None => Error::UnexpectedEndOfJson,
-                Some(ch) => Error::UnexpectedCharacter {
-                    ch,
-                    line: line_after(&source[..index]),
-                    column: column_after(&source[..index]),
-                },
-            },
-            Stop::Duplicate(start) => Error::DuplicateKey {
-                line: line_after(&source[..start]),
-                column: column_after(&source[..start]),
-            },
-            Stop::Inexact(index) => Error::InexactNumber {
-                line: line_after(&source[..index]),
-                column: column_after(&source[..index]),
-            },
-        }
+        self.located(source).error
     }
 
     /// The error that is returned for it, and its place.
+    #[inline(always)]
     pub(crate) fn located(self, source: &str) -> LocatedError
         requires { IsAtBoundary source.now self }
         ensures error { result.error ≡ reported_error source.now self }
         ensures place { result.place ≡ stop_place source.now self }
     {
-        let place = match self {
-            Stop::Memory => None,
-            Stop::Limit(i)
-            | Stop::Surrogates(i)
-            | Stop::At(i)
-            | Stop::Duplicate(i)
-            | Stop::Inexact(i) => Some(Place {
-                offset: i,
-                line: line_after(&source[..i]),
-                column: column_after(&source[..i]),
-            }),
+        let (error, place) = match self {
+            Stop::Memory => {
+                return LocatedError {
+                    error: Error::OutOfMemory,
+                    place: None,
+                };
+            }
+            Stop::Limit(i) => (Error::ExceededDepthLimit, place_at(source, i)),
+            Stop::Surrogates(i) => (Error::FailedUtf8Parsing, place_at(source, i)),
+            Stop::At(i) => {
+                let place = place_at(source, i);
+                let Place { line, column, .. } = place;
+                match source[i..].chars().next() {
+                    None => (Error::UnexpectedEndOfJson, place),
+                    Some(ch) => (Error::UnexpectedCharacter { ch, line, column }, place),
+                }
+            }
+            Stop::Duplicate(i) => {
+                let place = place_at(source, i);
+                let Place { line, column, .. } = place;
+                (Error::DuplicateKey { line, column }, place)
+            }
+            Stop::Inexact(i) => {
+                let place = place_at(source, i);
+                let Place { line, column, .. } = place;
+                (Error::InexactNumber { line, column }, place)
+            }
         };
         LocatedError {
-            error: self.error(source),
-            place,
+            error,
+            place: Some(place),
         }
     }
 }
 
+/// The place at an offset.
+fn place_at(source: &str, offset: usize) -> Place
+    requires { IsCharBoundary source.now offset }
+    ensures { result ≡ place_at source.now offset }
+{
+    Place {
+        offset,
+        line: line_after(&source[..offset]),
+        column: column_after(&source[..offset]),
+    }
+}
+
+/// Counts the bytes of newlines: no other character has such a byte.
 fn line_after(prefix: &str) -> usize
     ensures { result ≡ line (chars prefix.now) }
 {
-    prefix.chars().filter(|c| *c == '\n').count() + 1
+    count_below(prefix.as_bytes(), b'\n', 1) + 1
 }
 
 fn column_after(prefix: &str) -> usize
     ensures { result ≡ column (chars prefix.now) }
 {
     match prefix.rfind('\n') {
-        None => prefix.chars().count() + 1,
-        Some(newline) => prefix[newline + 1..].chars().count() + 1,
+        None => characters(prefix) + 1,
+        Some(newline) => characters(&prefix[newline + 1..]) + 1,
     }
+}
+
+/// How many characters a text has. It counts the bytes that begin one, all but 128 to 191: `^ 127`
+/// makes those 192 to 255.
+fn characters(text: &str) -> usize
+    ensures count { result ≡ length (chars text.now) }
+    ensures within { result ≤ length text.now }
+{
+    count_below(text.as_bytes(), 127, 192)
+}
+
+/// How many bytes `^ turn` are below a bound.
+fn count_below(bytes: &[u8], turn: u8, bound: u8) -> usize
+    ensures count { result ≡ count_by (is_below turn bound) bytes.now }
+    ensures within { result ≤ length bytes.now }
+{
+    let mut count = 0;
+    let mut start = 0;
+    while bytes.len() - start >= LANES {
+        count += count_in_lanes(bytes, start, turn, bound);
+        start += LANES;
+    }
+    count + count_by_bytes(&bytes[start..], turn, bound)
+}
+
+fn count_by_bytes(bytes: &[u8], turn: u8, bound: u8) -> usize
+    ensures { result ≡ count_by (is_below turn bound) bytes.now }
+{
+    bytes.iter().filter(|byte| (**byte ^ turn) < bound).count()
+}
+
+/// The same of the `LANES` bytes at an offset.
+#[inline(always)]
+fn count_in_lanes(bytes: &[u8], start: usize, turn: u8, bound: u8) -> usize
+    requires { start + LANES ≤ length bytes.now }
+    ensures { result ≡ count_by (is_below turn bound) (take LANES (drop start bytes.now)) }
+{
+    let lanes = Simd::<u8, 16>::from_slice(&bytes[start..]);
+    let below = (lanes ^ Simd::splat(turn)).simd_lt(Simd::splat(bound));
+    below.to_bitmask().count_ones() as usize
 }
 
 /// The stop for a text that goes wrong at `index`: neither the character there nor the end of the

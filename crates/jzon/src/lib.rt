@@ -20,6 +20,8 @@ mod target;
 mod whitespace;
 
 pub use conversions::{from, stringify, stringify_pretty};
+#[doc(hidden)]
+pub use jzon_base::error::io_error;
 pub use jzon_base::error::{Error, Error as JsonError, JsonResult, Result};
 pub use jzon_base::{number, short};
 pub use jzon_tree::into_json::IntoJson;

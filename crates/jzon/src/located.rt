@@ -2,12 +2,13 @@
 //!
 //! In clauses, `located_text` is the text that a `LocatedError` is printed as.
 
+ghost use Rattle.std.specs.IoError.{error_kind};
 ghost use Rattle.std.specs.Prelude.{◌≡◌, Some};
-ghost use Rattle.jzon_base.specs.declared.error.Error.{Error as Reason};
+ghost use Rattle.jzon_base.specs.ErrorText.{io_kind};
 ghost use Rattle.jzon.specs.Located.{located_text};
 
-use jzon_base::error::Error;
-use std::fmt;
+use jzon_base::error::{Error, io_error};
+use std::{fmt, io};
 
 /// A place in a text: a character, or the end.
 #[derive(Clone, Copy, Debug, PartialEq, Eq)]
@@ -42,11 +43,12 @@ impl fmt::Display for LocatedError {
 
 impl std::error::Error for LocatedError {}
 
-/// The error alone, so that `?` returns it.
-impl From<LocatedError> for Error {
-    ghost from_gives = { λ l e. e ≡ l.error };
+/// So that `?` works in a `main` that returns an `io::Result`. The message is what `Display` prints,
+/// for a text's error at most 74 bytes; the kind is that of the error alone.
+impl From<LocatedError> for io::Error {
+    ghost from_gives = { λ l i. error_kind i ≡ io_kind l.error };
 
-    fn from(located: LocatedError) -> Error {
-        located.error
+    fn from(located: LocatedError) -> io::Error {
+        io_error(located.error.io_kind(), &located)
     }
 }

@@ -93,6 +93,20 @@ impl Error {
     }
 }
 
+impl Error {
+    /// The kind of the `io::Error` that it becomes.
+    #[doc(hidden)]
+    pub fn io_kind(&self) -> ErrorKind
+        ensures { result ≡ io_kind self.now }
+    {
+        match self {
+            Error::OutOfMemory => ErrorKind::OutOfMemory,
+            Error::UnexpectedEndOfJson => ErrorKind::UnexpectedEof,
+            _ => ErrorKind::InvalidData,
+        }
+    }
+}
+
 /// The words that are given at each variant. Widths and other flags are ignored.
 impl fmt::Display for Error {
     ghost output = { λ e. Some (error_text e) };
@@ -145,15 +159,19 @@ impl From<Error> for io::Error {
     ghost from_gives = { λ e i. error_kind i ≡ io_kind e };
 
     fn from(error: Error) -> io::Error {
-        let kind = match error {
-            Error::OutOfMemory => ErrorKind::OutOfMemory,
-            Error::UnexpectedEndOfJson => ErrorKind::UnexpectedEof,
-            _ => ErrorKind::InvalidData,
-        };
-        let mut words = ArrayString::<80>::new();
-        match write!(words, "{error}") {
-            Ok(()) | Err(_) => {}
-        }
-        io::Error::new(kind, words.as_str())
+        io_error(error.io_kind(), &error)
     }
+}
+
+/// An `io::Error` of this kind, whose message is what `Display` prints. From the first part on that
+/// doesn't fit into 80 bytes, the message is left out.
+#[doc(hidden)]
+pub fn io_error<T: fmt::Display>(kind: ErrorKind, error: &T) -> io::Error
+    ensures { error_kind result ≡ kind }
+{
+    let mut words = ArrayString::<80>::new();
+    match write!(words, "{error}") {
+        Ok(()) | Err(_) => {}
+    }
+    io::Error::new(kind, words.as_str())
 }

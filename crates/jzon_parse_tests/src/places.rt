@@ -1,9 +1,10 @@
 //! Errors with their places, as `parse_located` returns them.
 
 use crate::common::{expect, expect_eq, expect_located};
-use jzon::{Error, LocatedError, Place, Reading, parse_located};
+use jzon::{Error, JsonValue, LocatedError, Place, Reading, parse_located};
 use jzon_test_support::{Long, RUNS_MAX, Refusals, rows, spelled};
 use std::alloc::Global;
+use std::io::{self, ErrorKind};
 use std::process::Abort;
 use std::test::Fail;
 
@@ -145,10 +146,136 @@ fn places_under_refusals(rt: HostRuntime) -> Result<(), Fail> {
     Ok(())
 }
 
-/// The error alone, for `?`.
+/// The line and the column after a prefix, character by character.
+fn place_after(prefix: &str) -> (usize, usize) {
+    let mut place = (1usize, 1usize);
+    for ch in prefix.chars() {
+        place = if ch == '\n' {
+            (place.0.saturating_add(1), 1)
+        } else {
+            (place.0, place.1.saturating_add(1))
+        };
+    }
+    place
+}
+
+/// Texts that end in mid-string, of each length from 0 to 99 characters: with a newline in any place
+/// or in none, before a character of each width.
+#[test]
+fn counts_many_bytes_at_once(rt: HostRuntime) -> Result<(), Fail> {
+    let alloc = rt.alloc();
+    for ch in [' ', '\u{8a}', '\u{10a}', '\u{a0a}', '\u{1000a}'] {
+        for newlines in [0usize, 1, 7, 40] {
+            let mut text = String::new(alloc);
+            for index in 0..100usize {
+                let place = place_after(text.as_str());
+                let found = error_of(alloc, text.as_str(), &Reading::USUAL)
+                    .and_then(|located| located.place)
+                    .map(|place| (place.offset, place.line, place.column));
+                let wanted = (text.len(), place.0, place.1);
+                if ch == ' ' || index == 0 {
+                    expect_eq(&rt, "spaces", found, Some(wanted));
+                } else {
+                    expect(&rt, "a character", found.is_some());
+                }
+                let is_newline = newlines > 0 && index.checked_rem(newlines) == Some(0);
+                text.push(if is_newline { '\n' } else { ' ' })?;
+            }
+            let start = text.len();
+            text.push('"')?;
+            for _ in 0..100usize {
+                text.push(ch)?;
+                let place = place_after(text.as_str());
+                let found = error_of(alloc, text.as_str(), &Reading::USUAL)
+                    .and_then(|located| located.place)
+                    .map(|place| (place.offset, place.line, place.column));
+                let wanted = (text.len(), place.0, place.1);
+                expect_eq(&rt, "in a string", found, Some(wanted));
+            }
+            expect(&rt, "a string", text.len() > start);
+        }
+    }
+    Ok(())
+}
+
+/// For `?` in a `main`.
+fn for_main(alloc: Global, text: &str) -> io::Result<JsonValue> {
+    let reading = &Reading::USUAL;
+    Ok(parse_located(alloc, text, reading)?)
+}
+
+/// The message and the kind of the `io::Error` of a text.
+fn raised_by(alloc: Global, text: &str) -> io::Result<(String, ErrorKind)> {
+    match for_main(alloc, text) {
+        Ok(_) => Ok((String::new(alloc), ErrorKind::Other)),
+        Err(raised) => Ok((format!(in alloc; "{raised}")?, raised.kind())),
+    }
+}
+
+#[test]
+fn raises_io_errors(rt: HostRuntime) -> Result<(), Fail> {
+    let alloc = rt.alloc();
+    let rows = [
+        (
+            "[1,\n",
+            "Unexpected end of JSON at (2:1)",
+            ErrorKind::UnexpectedEof,
+        ),
+        (
+            "[1 \u{1f984}",
+            "Unexpected character: \u{1f984} at (1:4)",
+            ErrorKind::InvalidData,
+        ),
+        (
+            "\"\\uDC00\\uDC00",
+            "Failed to parse UTF-8 bytes at (1:13)",
+            ErrorKind::InvalidData,
+        ),
+    ];
+    for (text, message, kind) in rows {
+        let (found, found_kind) = raised_by(alloc, text)?;
+        expect_eq(&rt, message, found.as_str(), message);
+        expect_eq(&rt, message, found_kind, kind);
+    }
+    let most = Place {
+        offset: usize::MAX,
+        line: usize::MAX,
+        column: usize::MAX,
+    };
+    let longest = "Failed to parse UTF-8 bytes at (18446744073709551615:18446744073709551615)";
+    let located = LocatedError {
+        error: Error::FailedUtf8Parsing,
+        place: Some(most),
+    };
+    let raised = format!(in alloc; "{}", io::Error::from(located))?;
+    expect_eq(&rt, "the longest", raised.as_str(), longest);
+    let word = "a word of more than fifty bytes, as no value's kind has it";
+    let located = LocatedError {
+        error: Error::wrong_type(alloc, word)?,
+        place: Some(most),
+    };
+    let raised = format!(in alloc; "{}", io::Error::from(located))?;
+    expect_eq(
+        &rt,
+        "too long",
+        raised.as_str(),
+        "Wrong type, expected: a word of more than fifty bytes, as no value's kind has it",
+    );
+    let long = format!(in alloc; "{word}, {word}")?;
+    let cut = format!(in alloc; "{}", io::Error::new(ErrorKind::Other, long.as_str()))?;
+    expect_eq(
+        &rt,
+        "cut by io::Error",
+        cut.as_str(),
+        "a word of more than fifty bytes, as no value's kind has it, a word of more th...",
+    );
+    Ok(())
+}
+
+/// The error alone.
 fn error_alone(alloc: Global, text: &str) -> jzon::Result<()> {
     match error_of(alloc, text, &Reading::STRICT) {
-        Some(located) => Err(located)?,
+        Some(located) => Err(located.error),
         None => Ok(()),
     }
 }

@@ -10,6 +10,7 @@ ghost use Rattle.std.specs.Prelude.{◌≡◌, ◌↔◌, IfErr, IfOk, IsOkUnles
 ghost use Rattle.std.specs.List.{list_any};
 ghost use Rattle.std.specs.List.Sorted.{IsPermutation, IsStrictlySortedBy};
 ghost use Rattle.std.specs.Cmp.Lexicographic.{slice_cmp};
+ghost use Rattle.std.specs.IoError.{error_kind};
 ghost use Rattle.std.specs.Ordering.{nat_cmp};
 ghost use Rattle.std.specs.Slice.Iter.{iter_rest};
 ghost use Rattle.jzon.specs.Entries.{entries_of};
@@ -17,14 +18,16 @@ ghost use Rattle.jzon.specs.Lawful.{HasNoNan};
 ghost use Rattle.jzon.specs.PairList.{keys_of};
 ghost use Rattle.jzon.specs.View.{view, view_pairs};
 ghost use Rattle.jzon_tools.specs.Canonical as canonical;
+ghost use Rattle.jzon_tools.specs.ErrorTexts.{canonical_error_kind, canonical_error_text};
 ghost use Rattle.jzon_tools.specs.Canonical.{arranged, has_nan, leaf_of, normal_number, pointed};
 ghost use Rattle.jzon_tools.specs.Canonical.{sorted_keys, CanonicalLaw};
 
 use jzon::number::Number;
 use jzon::object::Object;
-use jzon::{Error, IntoJson, JsonValue, Result};
+use jzon::{Error, IntoJson, JsonValue, Result, io_error};
 use std::alloc::Global;
-use std::{fmt, slice};
+use std::io::ErrorKind;
+use std::{fmt, io, slice};
 
 /// Why a value gets no canonical text.
 #[derive(Debug, PartialEq, Eq, Drop)]
@@ -36,15 +39,31 @@ pub enum CanonicalError {
 }
 
 impl fmt::Display for CanonicalError {
+    ghost output = { λ e. Some (canonical_error_text e) };
+
     fn fmt<W: fmt::Write>(&self, f: &mut fmt::Formatter<W>) -> fmt::Result {
-        f.write_str(match self {
-            CanonicalError::NotANumber => "Not a number",
-            CanonicalError::OutOfMemory => "Out of memory",
-        })
+        match self {
+            CanonicalError::NotANumber => f.write_str("Not a number"),
+            CanonicalError::OutOfMemory => f.write_str("Out of memory"),
+        }
     }
 }
 
 impl std::error::Error for CanonicalError {}
+
+/// So that `?` works in a `main` that returns an `io::Result`. The kind is `OutOfMemory`, or else
+/// `InvalidData`.
+impl From<CanonicalError> for io::Error {
+    ghost from_gives = { λ e i. error_kind i ≡ canonical_error_kind e };
+
+    fn from(error: CanonicalError) -> io::Error {
+        let kind = match error {
+            CanonicalError::NotANumber => ErrorKind::InvalidData,
+            CanonicalError::OutOfMemory => ErrorKind::OutOfMemory,
+        };
+        io_error(kind, &error)
+    }
+}
 
 /// The canonical text of a value without NaN.
 ///

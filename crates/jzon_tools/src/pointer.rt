@@ -8,6 +8,7 @@
 
 ghost use Rattle.std.specs.Prelude.{◌≡◌, ◌≤◌, ◌⊎◌, ◌∷◌, length, ℕ, List, OnOk, OnErr, IfOk, IfErr, IfSome, IsErr, Ok, Err, None, Some, true, false, if◌then◌else◌, map, option_map, option_and_then};
 ghost use Rattle.std.specs.Fn.{FnOnceReturnsAtMut};
+ghost use Rattle.std.specs.IoError.{error_kind};
 ghost use Rattle.std.specs.Option.{option_copied, option_copied_mut};
 ghost use Rattle.std.specs.Result.{result_ok};
 ghost use Rattle.jzon.specs.Entries.{entries_of};
@@ -15,16 +16,18 @@ ghost use Rattle.jzon.specs.JsonValue.{JsonValue as Json};
 ghost use Rattle.jzon.specs.PairList.{find};
 ghost use Rattle.jzon.specs.Value.{Value, array, values_of};
 ghost use Rattle.jzon.specs.View.{view, view_object};
+ghost use Rattle.jzon_tools.specs.ErrorTexts.{pointer_error_kind, pointer_error_text, reason_text};
 ghost use Rattle.jzon_tools.specs.Pointer.{child_of, entry_at, inserted_at, new_index, reason_of, removed_at, tokens_left, tokens_of, unescaped, updated_at, value_at, with_new, without, ChangesAt, LacksAt};
 ghost use Rattle.jzon_tools.specs.declared.pointer.PointerError.TheVariants.{NoSlash, OutOfMemory};
 
 use crate::token::{
     first_token, has_index_form, index_of, is_well_escaped, key_of, member, position_of,
 };
-use jzon::JsonValue;
 use jzon::object::Object;
+use jzon::{JsonValue, io_error};
 use std::alloc::Global;
-use std::fmt;
+use std::io::ErrorKind;
+use std::{fmt, io};
 
 /// Why a pointer names nothing in a value, or why nothing could be inserted there.
 #[derive(Clone, Copy, Debug, PartialEq, Eq)]
@@ -55,6 +58,8 @@ pub enum Reason {
 }
 
 impl fmt::Display for PointerError {
+    ghost output = { λ e. Some (pointer_error_text e) };
+
     fn fmt<W: fmt::Write>(&self, f: &mut fmt::Formatter<W>) -> fmt::Result {
         match self {
             PointerError::NoSlash => f.write_str("The pointer begins with no /"),
@@ -66,18 +71,34 @@ impl fmt::Display for PointerError {
 }
 
 impl fmt::Display for Reason {
+    ghost output = { λ r. Some (reason_text r) };
+
     fn fmt<W: fmt::Write>(&self, f: &mut fmt::Formatter<W>) -> fmt::Result {
-        f.write_str(match self {
-            Reason::BadEscape => "~ without 0 or 1 after it",
-            Reason::NoMember => "no such key",
-            Reason::NotAnIndex => "not an index",
-            Reason::OutOfRange => "index out of range",
-            Reason::NoChildren => "neither an array nor an object",
-        })
+        match self {
+            Reason::BadEscape => f.write_str("~ without 0 or 1 after it"),
+            Reason::NoMember => f.write_str("no such key"),
+            Reason::NotAnIndex => f.write_str("not an index"),
+            Reason::OutOfRange => f.write_str("index out of range"),
+            Reason::NoChildren => f.write_str("neither an array nor an object"),
+        }
     }
 }
 
 impl std::error::Error for PointerError {}
+
+/// So that `?` works in a `main` that returns an `io::Result`. The kind is `OutOfMemory`, or else
+/// `InvalidData`.
+impl From<PointerError> for io::Error {
+    ghost from_gives = { λ e i. error_kind i ≡ pointer_error_kind e };
+
+    fn from(error: PointerError) -> io::Error {
+        let kind = match error {
+            PointerError::OutOfMemory => ErrorKind::OutOfMemory,
+            _ => ErrorKind::InvalidData,
+        };
+        io_error(kind, &error)
+    }
+}
 
 /// The value that a pointer names.
 ///

@@ -7,6 +7,7 @@ use jzon::{JsonValue, parse};
 use jzon_test_support::{RUNS_MAX, Refusals, keys_by_hash, object_text, rows};
 use jzon_tools::canonical::{CanonicalError, canonical_text, sort_keys, sorted};
 use std::alloc::Global;
+use std::io;
 use std::test::Fail;
 
 /// Texts of equal values, and after them the canonical text of each.
@@ -129,6 +130,12 @@ fn nan_has_no_text(rt: HostRuntime) -> Tested {
         CanonicalError::OutOfMemory
     )?;
     expect_eq(&rt, "Display", text.as_str(), "Not a number, Out of memory");
+    let raised = io::Error::from(CanonicalError::NotANumber);
+    let message = format!(in rt.alloc(); "{raised}")?;
+    expect_eq(&rt, "io::Error", message.as_str(), "Not a number");
+    expect_eq(&rt, "its kind", raised.kind(), io::ErrorKind::InvalidData);
+    let kind = io::Error::from(CanonicalError::OutOfMemory).kind();
+    expect_eq(&rt, "its kind", kind, io::ErrorKind::OutOfMemory);
     Ok(())
 }
 

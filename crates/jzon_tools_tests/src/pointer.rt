@@ -7,6 +7,7 @@ use jzon_test_support::{RUNS_MAX, Refusals, rows};
 use jzon_tools::pointer::PointerError::{Missing, NoSlash, WholeValue};
 use jzon_tools::pointer::Reason::{BadEscape, NoChildren, NoMember, NotAnIndex, OutOfRange};
 use jzon_tools::pointer::{self, PointerError};
+use std::io::{self, ErrorKind};
 use std::test::Fail;
 
 /// The text of RFC 6901, section 5.
@@ -208,6 +209,14 @@ fn shows_errors(rt: HostRuntime) -> Tested {
     for (error, words) in WORDS {
         let text = format!(in rt.alloc(); "{error}")?;
         expect_eq(&rt, words, text.as_str(), *words);
+        let raised = io::Error::from(*error);
+        let message = format!(in rt.alloc(); "{raised}")?;
+        expect_eq(&rt, words, message.as_str(), *words);
+        let kind = match error {
+            PointerError::OutOfMemory => ErrorKind::OutOfMemory,
+            _ => ErrorKind::InvalidData,
+        };
+        expect_eq(&rt, words, raised.kind(), kind);
     }
     Ok(())
 }

@@ -1,5 +1,12 @@
-use Rattle.jzon_base.proofs.Common.{rules, chars_from_encodes}
+use Rattle.jzon_base.proofs.Common.{◌∙◌, ap, arith, count_by}
+use Rattle.jzon.specs.Private.Lines.{is_below}
+use Rattle.jzon.proofs.Texts.ByteCounts.{newlines_of}
 use Rattle.jzon.proofs.fault.line_after.Goals as goal
 
 pub returns : goal.returns
-returns c = search (rules, chars_from_encodes)
+returns c =
+    omega (
+      arith,
+      c.count_below.ensures.count ∙ ap (count_by (is_below 10 1)) c.as_bytes.ensures.value
+          ∙ newlines_of c.args.prefix.now c.utf8.prefix c.type_inv.prefix,
+    )
