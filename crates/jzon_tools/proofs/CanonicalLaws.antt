@@ -11,6 +11,7 @@ use Rattle.jzon.specs.Decimal.{Decimal, nan, parts}
 use Rattle.jzon.specs.PairList.{keys_of}
 use Rattle.jzon.specs.Value.{Value, null, boolean, text, number, array, object, Values, no_values, value, ValuePairs}
 use Rattle.jzon.specs.Value.{no_pairs, pair, list_of_pairs, Kind, short, long}
+use Rattle.jzon.specs.Meaning.{meaning}
 use Rattle.jzon.specs.SortedStyle.{is_before}
 use Rattle.jzon.specs.Text.{compact}
 use Rattle.jzon.specs.Lawful.{IsValue, AreValues, ArePairs, IsText, HasNoNan, HaveNoNan, PairsHaveNoNan, IsNumber}
@@ -18,7 +19,7 @@ use Rattle.jzon.specs.Same.{same, same_items}
 use Rattle.jzon.specs.SameLaws.{same_at, object-intro, at, same_equiv}
 use Rattle.jzon.proofs.PairLaws.{All-found}
 use Rattle.jzon_tools.specs.Canonical.{arranged, arranged_values, arranged_pairs, put_sorted, normal_number, stripped}
-use Rattle.jzon_tools.specs.Canonical.{normal_leaf, CanonicalLaw}
+use Rattle.jzon_tools.specs.Canonical.{normal_leaf, CanonicalLaw, OneTextLaw}
 use Rattle.jzon_tools.proofs.CompactTexts.{one_value}
 use Rattle.jzon_tools.proofs.EqualForms.{MakesOne, form}
 use Rattle.jzon_tools.proofs.SortedEntries.{at-arranged_pairs, IsSorted-arranged_pairs, distinct, IsSorted, AllAfter}
@@ -160,3 +161,10 @@ canonical_law v w iv iw nv nw = (
       let back : same v (N w) ≡ true = sym (same_equiv.congr (N v) v (N w) (same_normal v iv)) ∙ forms in
       same_equiv.symm v w ∙ sym (same_equiv.congr (N w) w v (same_normal w iw)) ∙ same_equiv.symm (N w) v ∙ back,
 )
+
+pub one_text_law : OneTextLaw
+one_text_law t u a b h k =
+    let v = meaning h.0.node in
+    let w = meaning k.0.node in
+    let law = canonical_law v w h.2.0 k.2.0 h.2.1 k.2.1 in
+    (λ e. law.1 (sym h.3 ∙ e ∙ k.3), λ e. h.3 ∙ law.0 e ∙ sym k.3)

@@ -113,7 +113,7 @@ apart_from_greater k [] all = tt
 apart_from_greater k (y ∷ ks) all =
     (apart-sym y k (before-apart k y (ap is_lt all.0)), apart_from_greater k ks all.1)
 
-distinct_sorted : (ks : List (List ℕ)) → IsStrictlySortedBy (slice_cmp nat_cmp) ks → IsDistinct bytes_eq ks
+pub distinct_sorted : (ks : List (List ℕ)) → IsStrictlySortedBy (slice_cmp nat_cmp) ks → IsDistinct bytes_eq ks
 unfolding IsStrictlySortedBy IsDistinct
 distinct_sorted [] sorted = tt
 distinct_sorted (k ∷ ks) sorted = (apart_from_greater k ks sorted.0, distinct_sorted ks sorted.1)
@@ -173,7 +173,7 @@ module _ (leaf : Value → Value) where
   keys-copied [] = refl
   keys-copied (q ∷ qs) = ap (λ (ks : List (List ℕ)). q.0 ∷ ks) (keys-copied qs)
 
-  sorted_copies : (ps qs : List (List ℕ × JsonValue)) → IsDistinct bytes_eq (keys_of ps)
+  pub sorted_copies : (ps qs : List (List ℕ × JsonValue)) → IsDistinct bytes_eq (keys_of ps)
       → IsDistinct bytes_eq (keys_of qs) → IsPermutation ps qs → IsStrictlySortedBy (slice_cmp nat_cmp) (keys_of qs)
       → pairs_of (map copied qs) ≡ arranged_pairs leaf (pairs_of (viewed ps))
   sorted_copies ps qs dp dq same sorted =

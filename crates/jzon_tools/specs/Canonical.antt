@@ -1,9 +1,14 @@
 -- A value with sorted keys, its canonical text, and the law of canonical texts.
 use Rattle.std.specs.Prelude.{◌≡◌, ℕ, zero, suc, not, ◌/◌, ◌%◌, ◌==◌, ◌&&◌, ◌||◌, ℤ, pos, ◌+ℤ◌, List, Bool, true, false}
 use Rattle.std.specs.Borrow.{Bor}
-use Rattle.std.specs.Prelude.{IsTrue, if◌then◌else◌}
+use Rattle.std.specs.Prelude.{◌↔◌, IsTrue, if◌then◌else◌}
 use Rattle.std.specs.Ordering.{int_eq}
+use Rattle.jzon.specs.Answer.{IsReadable}
 use Rattle.jzon.specs.Decimal.{Decimal, nan, parts, is_nan}
+use Rattle.jzon.specs.Fault.{Parses}
+use Rattle.jzon.specs.Grammar.{Document}
+use Rattle.jzon.specs.Meaning.{meaning}
+use Rattle.jzon.specs.Reading.{Reading}
 use Rattle.jzon.specs.Lawful.{IsValue, HasNoNan}
 use Rattle.jzon.specs.Same.{same}
 use Rattle.jzon.specs.SortedStyle.{is_before}
@@ -61,11 +66,6 @@ normal_leaf (number n) = number (normal_number n)
 normal_leaf (array vs) = array vs
 normal_leaf (object ps) = object ps
 
--- the leaves of a canonical text, or leaves as they are
-abbrev pub leaf_of : Bool → Value → Value
-leaf_of true = normal_leaf
-leaf_of false = λ v. v
-
 -- the canonical text of a value
 abbrev pub canonical : Value → List ℕ
 canonical v = compact (arranged normal_leaf v)
@@ -98,3 +98,17 @@ abbrev mutual
 abbrev pub CanonicalLaw : Type 0
 CanonicalLaw = (v w : Value) → IsValue v → IsValue w → HasNoNan v → HasNoNan w
     → (IsTrue (same v w) → canonical v ≡ canonical w) × (canonical v ≡ canonical w → IsTrue (same v w))
+
+-- the strict and exact reading of depth 512
+abbrev pub strict_exact : Reading
+strict_exact = record { strict = true; depth = 512; exact = true }
+
+-- the bytes are the canonical text of what the text means
+abbrev pub IsCanonicalOf : List ℕ → List ℕ → Type 0
+IsCanonicalOf t bytes = (d : Document) × Parses strict_exact t d × IsReadable strict_exact (meaning d.node)
+    × (bytes ≡ canonical (meaning d.node))
+
+-- two texts have the same result if and only if they mean equal values
+abbrev pub OneTextLaw : Type 0
+OneTextLaw = (t u a b : List ℕ) (h : IsCanonicalOf t a) (k : IsCanonicalOf u b)
+    → (a ≡ b) ↔ IsTrue (same (meaning h.0.node) (meaning k.0.node))

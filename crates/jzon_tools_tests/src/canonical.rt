@@ -3,9 +3,9 @@
 use crate::common::{Tested, Tester, expect, expect_dump, expect_eq};
 use jzon::number::NAN;
 use jzon::short::Short;
-use jzon::{JsonValue, parse};
+use jzon::{Error, JsonValue, parse};
 use jzon_test_support::{RUNS_MAX, Refusals, keys_by_hash, object_text, rows};
-use jzon_tools::canonical::{CanonicalError, canonical_text, sort_keys, sorted};
+use jzon_tools::canonical::{CanonicalError, canonical_text, of_text, sort_keys, sorted};
 use std::alloc::Global;
 use std::io;
 use std::test::Fail;
@@ -67,6 +67,28 @@ fn equal_values_have_one_text(rt: HostRuntime) -> Tested {
             }
         }
     }
+    Ok(())
+}
+
+/// Each text of a class is read, and what a strict and exact reading rejects is rejected.
+#[test]
+fn reads_texts(rt: HostRuntime) -> Tested {
+    let alloc = rt.alloc();
+    let text = of_text(alloc, " {\"b\": 1.50, \"a\": [-0, 1e2]}")?;
+    expect_eq(&rt, "canonical", text.as_str(), "{\"a\":[0,100],\"b\":1.5}");
+    let again = of_text(alloc, text.as_str())?;
+    expect_eq(&rt, "again", again.as_str(), text.as_str());
+    let repeated = Error::DuplicateKey { line: 1, column: 8 };
+    let result = of_text(alloc, "{\"a\":1,\"a\":2}");
+    expect(&rt, "repeated key", result == Err(repeated));
+    let result = of_text(alloc, "[1,");
+    expect(&rt, "end", result == Err(Error::UnexpectedEndOfJson));
+    let inexact = Error::InexactNumber {
+        line: 1,
+        column: 21,
+    };
+    let result = of_text(alloc, "184467440737095516151");
+    expect(&rt, "digits", result == Err(inexact));
     Ok(())
 }
 
@@ -205,16 +227,17 @@ impl Call {
 }
 
 /// A call, its name, the text of its value, the text that it makes, and the number of its
-/// allocations: one for an array that isn't empty, four for an object that isn't (a list of its
-/// entries, a box and two lists), one for each long string or key, and one for a text.
+/// allocations. A text takes one for each object that isn't empty (a list of its entries), and one
+/// each time that it grows. A copy takes one for an array that isn't empty, four for an object that
+/// isn't (the list of its entries, a box and two lists), and one for each long string or key.
 type Row = (Call, &'static str, &'static str, &'static str, usize);
 
 #[rattlefmt::skip]
 const REFUSED_ROWS: &[Row] = rows! {
-    (Call::Text, "canonical_text", "{\"b\":1.50,\"a\":[-0]}", "{\"a\":[0],\"b\":1.5}", 6)
+    (Call::Text, "canonical_text", "{\"b\":1.50,\"a\":[-0]}", "{\"a\":[0],\"b\":1.5}", 4)
     (Call::Sorted, "sorted", "{\"b\":1.50,\"a\":[-0]}", "{\"a\":[-0],\"b\":1.50}", 5)
     (Call::SortKeys, "sort_keys", "{\"b\":1.50,\"a\":[-0]}", "{\"a\":[-0],\"b\":1.50}", 5)
-    (Call::Text, "canonical_text, allocated parts", LONG, LONG_SORTED, 11)
+    (Call::Text, "canonical_text, allocated parts", LONG, LONG_SORTED, 6)
     (Call::Sorted, "sorted, allocated parts", LONG, LONG_SORTED, 10)
     (Call::SortKeys, "sort_keys, allocated parts", LONG, LONG_SORTED, 10)
 };

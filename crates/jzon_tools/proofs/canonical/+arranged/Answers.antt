@@ -8,7 +8,7 @@ use Rattle.jzon.specs.JsonValue.{JsonValue}
 use Rattle.jzon.specs.Measure.{size, largest_under}
 use Rattle.jzon.specs.View.{view, viewed}
 use Rattle.jzon.proofs.ValueLaws.{viewed-put}
-use Rattle.jzon_tools.specs.Canonical.{leaf_of, pointed}
+use Rattle.jzon_tools.specs.Canonical.{pointed}
 use Rattle.jzon_tools.proofs.SortedCopies.{copied-next, copied-all, keys_at, size-pointed}
 use Rattle.jzon_tools.proofs.canonical.+arranged.Goals as goal
 
@@ -26,7 +26,7 @@ pub arranged_object-loop-key-preserved : goal.arranged_object-loop-key-preserved
 arranged_object-loop-key-preserved t c =
     let e = c.loop-key-item.result in
     ap viewed c.in_ok-insert.ensures.ok ∙ viewed-put e.0.now c.in_ok-arranged.field-0 (entries_of c.loop-key.copy)
-    ∙ copied-next (leaf_of c.args.normal) c.deref-key-items.result.now c.loop-key.key-index e
+    ∙ copied-next (λ v. v) c.deref-key-items.result.now c.loop-key.key-index e
     (view c.in_ok-arranged.field-0) (viewed (entries_of c.loop-key.copy)) c.loop-key-test.true c.loop-key-item.is
     c.in_ok-arranged.ensures.copy c.loop-key.invariant
 
@@ -35,7 +35,7 @@ arranged_object-returns-clause-copy t c =
     let ps = entries_of c.args.object.now in
     let es = c.deref-key-items.result.now in
     let same = sym c.deref-key-items.ensures.value in
-    copied-all (leaf_of c.args.normal) ps es c.loop-key.key-index (viewed (entries_of c.loop-key.copy))
+    copied-all (λ v. v) ps es c.loop-key.key-index (viewed (entries_of c.loop-key.copy))
     c.loop-key-test.false
     (subst (λ (xs : List (Bor (List ℕ) × Bor JsonValue)). IsPermutation ps (map pointed xs)) same
     c.in_ok-entries.ensures.same)

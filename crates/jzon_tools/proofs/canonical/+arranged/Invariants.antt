@@ -3,17 +3,17 @@ use Rattle.jzon.specs.Entries.{entries_of}
 use Rattle.jzon.specs.Measure.{size, largest, largest_under}
 use Rattle.jzon.specs.PairList.{put_each}
 use Rattle.jzon.specs.View.{view, viewed}
-use Rattle.jzon_tools.specs.Canonical.{arranged, leaf_of, pointed}
+use Rattle.jzon_tools.specs.Canonical.{arranged, pointed}
 use Rattle.jzon_tools.proofs.SortedCopies.{copied}
 use Rattle.jzon_tools.proofs.canonical.+arranged.Given as goal
 
 abbrev pub invariant-arranged_items-loop-item : goal.invariant-arranged_items-loop-item
 invariant-arranged_items-loop-item l =
-    map view l.copies.items ≡ map (arranged (leaf_of l.normal)) (map view (take l.item-index l.items))
+    map view l.copies.items ≡ map (arranged (λ v. v)) (map view (take l.item-index l.items))
 
 abbrev pub invariant-arranged_object-loop-key : goal.invariant-arranged_object-loop-key
 invariant-arranged_object-loop-key l =
-    viewed (entries_of l.copy) ≡ put_each (map (copied (leaf_of l.normal)) (map pointed (take l.key-index l.key-items)))
+    viewed (entries_of l.copy) ≡ put_each (map (copied (λ v. v)) (map pointed (take l.key-index l.key-items)))
 
 abbrev pub decreases-arranged : goal.decreases-arranged
 decreases-arranged l = 3 * size l.value.now
