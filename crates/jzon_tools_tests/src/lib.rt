@@ -11,6 +11,8 @@ mod examples;
 #[cfg(test)]
 mod merge;
 #[cfg(test)]
+mod patch;
+#[cfg(test)]
 mod pointer;
 #[cfg(test)]
 mod redact;

@@ -1,0 +1,95 @@
+-- The steps of a patch: where a pointer names nothing, nothing can be changed; and the operations that are left.
+use Rattle.std.proofs.Common.{◌≡◌, ℕ, suc, List, [], ◌∷◌, Option, None, Some, option_map, option_and_then, Ok, Err}
+use Rattle.std.proofs.Common.{refl, ap, ◌∙◌}
+use Rattle.std.specs.Option.{ok_or}
+use Rattle.jzon.specs.JsonValue.{JsonValue}
+use Rattle.jzon.specs.PairList.{find, cut}
+use Rattle.std.proofs.Common.{slice_get}
+use Rattle.std.specs.List.{remove}
+use Rattle.jzon.specs.Value.{Value, null, boolean, text, number, array, object, values_of, pairs_of, list_of_values, list_of_pairs}
+use Rattle.jzon.specs.View.{view, view_values}
+use Rattle.jzon_tools.specs.Patch.{operated, applied_each}
+use Rattle.jzon_tools.specs.Pointer.{index_named, unescaped, child_of, with_child, reason_of, tokens_of, found, and_then, value_at, entry_at, updated, updated_at, changed, without, removed_at}
+use Rattle.jzon_tools.specs.declared.pointer.PointerError.{PointerError}
+use Rattle.jzon_tools.specs.declared.pointer.PointerError.TheVariants.{NoSlash, Missing}
+
+-- ---- what names nothing
+
+updated-missing_by : (f : Value → Option Value) (o : Option Value) (i : ℕ) (v : Value) (t : List ℕ) (ts : List (List ℕ))
+    (x e : PointerError) → ((c : Value) → found (suc i) c ts ≡ Err e → updated f c ts ≡ None)
+    → and_then (λ c. found (suc i) c ts) (ok_or o x) ≡ Err e
+    → option_map (with_child v t) (option_and_then (λ c. updated f c ts) o) ≡ None
+updated-missing_by f None i v t ts x e ih h = refl
+updated-missing_by f (Some c) i v t ts x e ih h = ap (option_map (with_child v t)) (ih c h)
+
+updated-missing : (f : Value → Option Value) (ts : List (List ℕ)) (i : ℕ) (v : Value) (e : PointerError)
+    → found i v ts ≡ Err e → updated f v ts ≡ None
+updated-missing f [] i v e h = absurd (cc)
+updated-missing f (t ∷ ts) i v e h =
+    updated-missing_by f (child_of v t) i v t ts (Missing i (reason_of v t)) e
+    (λ c g. updated-missing f ts (suc i) c e g) h
+
+updated-nowhere_by : (f : Value → Option Value) (o : Option (List (List ℕ))) (v : Value) (e : PointerError)
+    → and_then (found 0 v) (ok_or o NoSlash) ≡ Err e → option_and_then (updated f v) o ≡ None
+updated-nowhere_by f None v e h = refl
+updated-nowhere_by f (Some ts) v e h = updated-missing f ts 0 v e h
+
+pub updated-nowhere : (f : Value → Option Value) (v : Value) (path : List ℕ) (e : PointerError)
+    → value_at v path ≡ Err e → updated_at f v path ≡ None
+updated-nowhere f v path e h = updated-nowhere_by f (tokens_of path) v e h
+
+mapped-none : {K : Type 0} (f : K → Option Value) (g : K → Value → Value) (o : Option K)
+    → option_and_then f o ≡ None → option_and_then (λ k. option_map (g k) (f k)) o ≡ None
+mapped-none f g None h = refl
+mapped-none f g (Some k) h = ap (option_map (g k)) h
+
+without-none : (v : Value) (t : List ℕ) → child_of v t ≡ None → without v t ≡ None
+without-none null t h = refl
+without-none (boolean b) t h = refl
+without-none (text k s) t h = refl
+without-none (number n) t h = refl
+without-none (array vs) t h =
+    mapped-none (λ i. slice_get (list_of_values vs) i) (λ i c. array (values_of (remove (list_of_values vs) i)))
+    (index_named t) h
+without-none (object ps) t h =
+    mapped-none (λ k. find k (list_of_pairs ps)) (λ k c. object (pairs_of (cut k (list_of_pairs ps)))) (unescaped t) h
+
+no_child_by : (o : Option Value) (x e : PointerError) → and_then (λ c. Ok c) (ok_or o x) ≡ Err e → o ≡ None
+no_child_by None x e h = refl
+no_child_by (Some c) x e h = absurd (cc)
+
+removed-missing_by : (o : Option Value) (i : ℕ) (v : Value) (t u : List ℕ) (us : List (List ℕ))
+    (x e : PointerError) → ((c : Value) → found (suc i) c (u ∷ us) ≡ Err e → changed without c (u ∷ us) ≡ None)
+    → and_then (λ c. found (suc i) c (u ∷ us)) (ok_or o x) ≡ Err e
+    → option_map (with_child v t) (option_and_then (λ c. changed without c (u ∷ us)) o) ≡ None
+removed-missing_by None i v t u us x e ih h = refl
+removed-missing_by (Some c) i v t u us x e ih h = ap (option_map (with_child v t)) (ih c h)
+
+removed-missing : (ts : List (List ℕ)) (i : ℕ) (v : Value) (e : PointerError)
+    → found i v ts ≡ Err e → changed without v ts ≡ None
+removed-missing [] i v e h = refl
+removed-missing (t ∷ []) i v e h = without-none v t (no_child_by (child_of v t) (Missing i (reason_of v t)) e h)
+removed-missing (t ∷ u ∷ us) i v e h =
+    removed-missing_by (child_of v t) i v t u us (Missing i (reason_of v t)) e
+    (λ c g. removed-missing (u ∷ us) (suc i) c e g) h
+
+removed-nowhere_by : (o : Option (List (List ℕ))) (v : Value) (e : PointerError)
+    → and_then (found 0 v) (ok_or o NoSlash) ≡ Err e → option_and_then (changed without v) o ≡ None
+removed-nowhere_by None v e h = refl
+removed-nowhere_by (Some ts) v e h = removed-missing ts 0 v e h
+
+pub removed-nowhere : (v : Value) (path : List ℕ) (e : PointerError) → entry_at v path ≡ Err e → removed_at v path ≡ None
+removed-nowhere v [] e h = refl
+removed-nowhere v (c ∷ cs) e h = removed-nowhere_by (tokens_of (c ∷ cs)) v e h
+
+-- ---- the operations that are left
+
+pub applied-next : (ops rest : List JsonValue) (op : JsonValue) (v w : Value) → ops ≡ op ∷ rest
+    → operated (view op) v ≡ Some w → applied_each (view_values ops) v ≡ applied_each (view_values rest) w
+applied-next ops rest op v w is done =
+    ap (λ xs. applied_each (view_values xs) v) is ∙ ap (option_and_then (applied_each (view_values rest))) done
+
+pub applied-stopped : (ops rest : List JsonValue) (op : JsonValue) (v : Value) → ops ≡ op ∷ rest
+    → operated (view op) v ≡ None → applied_each (view_values ops) v ≡ None
+applied-stopped ops rest op v is none =
+    ap (λ xs. applied_each (view_values xs) v) is ∙ ap (option_and_then (applied_each (view_values rest))) none

@@ -1,0 +1,8 @@
+use Rattle.std.proofs.Common.{inr, Some}
+use Rattle.jzon.specs.View.{view}
+use Rattle.jzon_tools.proofs.PatchSteps.{updated-nowhere}
+use Rattle.jzon_tools.proofs.patch.replace.Goals as goal
+
+pub returns-in-Err-clause-done : goal.returns-in-Err-clause-done
+returns-in-Err-clause-done c =
+    inr (updated-nowhere (λ _. Some (view c.args.new)) (view c.args.value.now) c.args.path.now c.in-Err.error c.in-Err.ensures.error)

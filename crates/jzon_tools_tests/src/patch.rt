@@ -1,0 +1,222 @@
+//! Tests of `patch`.
+
+use crate::common::{Tested, Tester, expect, expect_dump, expect_eq};
+use jzon::JsonValue;
+use jzon_test_support::{RUNS_MAX, Refusals, rows};
+use jzon_tools::patch::{self, Cause, PatchError};
+use jzon_tools::pointer::PointerError::{Missing, NoSlash, WholeValue};
+use jzon_tools::pointer::Reason::{NoChildren, NoMember, NotAnIndex, OutOfRange};
+use std::test::Fail;
+
+/// A value, a patch, and the value after it. First the examples of RFC 6902, appendix A.
+const APPLIED: &[(&str, &str, &str)] = rows! {
+    (r#"{"foo":"bar"}"#, r#"[{"op":"add","path":"/baz","value":"qux"}]"#, r#"{"foo":"bar","baz":"qux"}"#)
+    (r#"{"foo":["bar","baz"]}"#, r#"[{"op":"add","path":"/foo/1","value":"qux"}]"#, r#"{"foo":["bar","qux","baz"]}"#)
+    (r#"{"baz":"qux","foo":"bar"}"#, r#"[{"op":"remove","path":"/baz"}]"#, r#"{"foo":"bar"}"#)
+    (r#"{"foo":["bar","qux","baz"]}"#, r#"[{"op":"remove","path":"/foo/1"}]"#, r#"{"foo":["bar","baz"]}"#)
+    (r#"{"baz":"qux","foo":"bar"}"#, r#"[{"op":"replace","path":"/baz","value":"boo"}]"#, r#"{"baz":"boo","foo":"bar"}"#)
+    (r#"{"foo":{"bar":"baz","waldo":"fred"},"qux":{"corge":"grault"}}"#, r#"[{"op":"move","from":"/foo/waldo","path":"/qux/thud"}]"#, r#"{"foo":{"bar":"baz"},"qux":{"corge":"grault","thud":"fred"}}"#)
+    (r#"{"foo":["all","grass","cows","eat"]}"#, r#"[{"op":"move","from":"/foo/1","path":"/foo/3"}]"#, r#"{"foo":["all","cows","eat","grass"]}"#)
+    (r#"{"baz":"qux","foo":["a",2,"c"]}"#, r#"[{"op":"test","path":"/baz","value":"qux"},{"op":"test","path":"/foo/1","value":2}]"#, r#"{"baz":"qux","foo":["a",2,"c"]}"#)
+    (r#"{"foo":"bar"}"#, r#"[{"op":"add","path":"/child","value":{"grandchild":{}}}]"#, r#"{"foo":"bar","child":{"grandchild":{}}}"#)
+    (r#"{"foo":"bar"}"#, r#"[{"op":"add","path":"/baz","value":"qux","xyz":123}]"#, r#"{"foo":"bar","baz":"qux"}"#)
+    (r#"{"/":9,"~1":10}"#, r#"[{"op":"test","path":"/~01","value":10}]"#, r#"{"/":9,"~1":10}"#)
+    (r#"{"foo":["bar"]}"#, r#"[{"op":"add","path":"/foo/-","value":["abc","def"]}]"#, r#"{"foo":["bar",["abc","def"]]}"#)
+    (r#"{"a":1}"#, "[]", r#"{"a":1}"#)
+    (r#"{"a":1}"#, r#"[{"op":"add","path":"","value":[2]}]"#, "[2]")
+    (r#"{"a":1}"#, r#"[{"op":"replace","path":"","value":[2]}]"#, "[2]")
+    (r#"{"a":1}"#, r#"[{"op":"test","path":"","value":{"a":1.0}}]"#, r#"{"a":1}"#)
+    (r#"{"a":1,"b":2}"#, r#"[{"op":"test","path":"","value":{"b":2,"a":1}}]"#, r#"{"a":1,"b":2}"#)
+    (r#"{"a":null}"#, r#"[{"op":"test","path":"/a","value":null},{"op":"add","path":"/a","value":null}]"#, r#"{"a":null}"#)
+    ("[1,2]", r#"[{"op":"add","path":"/2","value":3}]"#, "[1,2,3]")
+    (r#"{"a":{"b":1}}"#, r#"[{"op":"copy","from":"/a","path":"/a/c"}]"#, r#"{"a":{"b":1,"c":{"b":1}}}"#)
+    (r#"{"a":1,"b":2}"#, r#"[{"op":"move","from":"/a","path":"/a"}]"#, r#"{"a":1,"b":2}"#)
+    (r#"{"a":1}"#, r#"[{"op":"move","from":"","path":""}]"#, r#"{"a":1}"#)
+    (r#"{"a":{"b":1}}"#, r#"[{"op":"move","from":"/a","path":""}]"#, r#"{"b":1}"#)
+    (r#"{"a":{"b":1}}"#, r#"[{"op":"move","from":"/a","path":"/ab"}]"#, r#"{"ab":{"b":1}}"#)
+    (r#"{"a":1,"b":2}"#, r#"[{"op":"copy","from":"/a","path":"/b"}]"#, r#"{"a":1,"b":1}"#)
+    (r#"{"a":1,"b":2}"#, r#"[{"op":"move","from":"/a","path":"/b"}]"#, r#"{"b":1}"#)
+    (r#"{"a/b":{"m~n":1}}"#, r#"[{"op":"replace","path":"/a~1b/m~0n","value":5}]"#, r#"{"a/b":{"m~n":5}}"#)
+};
+
+#[test]
+fn applies(rt: HostRuntime) -> Tested {
+    for (before, text, after) in APPLIED {
+        let mut value = jzon::parse(rt.alloc(), before)?;
+        let patch = jzon::parse(rt.alloc(), text)?;
+        expect_eq(
+            &rt,
+            text,
+            patch::apply(rt.alloc(), &mut value, &patch),
+            Ok(()),
+        );
+        expect_dump(&rt, &value, after)?;
+    }
+    Ok(())
+}
+
+/// A value, a patch that isn't applied to it, and why. First the examples of RFC 6902, appendix A.
+const REFUSED: &[(&str, &str, Option<usize>, Cause)] = rows! {
+    (r#"{"baz":"qux"}"#, r#"[{"op":"test","path":"/baz","value":"bar"}]"#, Some(0), Cause::TestFailed)
+    (r#"{"foo":"bar"}"#, r#"[{"op":"add","path":"/baz/bat","value":"qux"}]"#, Some(0), Cause::Pointer("path", Missing { token: 0, reason: NoMember }))
+    (r#"{"/":9,"~1":10}"#, r#"[{"op":"test","path":"/~01","value":"10"}]"#, Some(0), Cause::TestFailed)
+    (r#"{"a":1}"#, "{}", None, Cause::NotAnArray)
+    (r#"{"a":1}"#, "5", None, Cause::NotAnArray)
+    (r#"{"a":1}"#, "[5]", Some(0), Cause::NotAnObject)
+    (r#"{"a":1}"#, "[{}]", Some(0), Cause::Missing("op"))
+    (r#"{"a":1}"#, r#"[{"op":"add"}]"#, Some(0), Cause::Missing("path"))
+    (r#"{"a":1}"#, r#"[{"op":"add","path":"/b"}]"#, Some(0), Cause::Missing("value"))
+    (r#"{"a":1}"#, r#"[{"op":"spam","path":"/a"}]"#, Some(0), Cause::UnknownOp)
+    (r#"{"a":1}"#, r#"[{"op":1,"path":"/a"}]"#, Some(0), Cause::NotAString("op"))
+    (r#"{"a":1}"#, r#"[{"op":"add","path":5,"value":1}]"#, Some(0), Cause::NotAString("path"))
+    (r#"{"a":1}"#, r#"[{"op":"move","path":"/a"}]"#, Some(0), Cause::Missing("from"))
+    (r#"{"a":1}"#, r#"[{"op":"copy","from":5,"path":"/a"}]"#, Some(0), Cause::NotAString("from"))
+    (r#"{"a":1}"#, r#"[{"op":"add","path":"a","value":2}]"#, Some(0), Cause::Pointer("path", NoSlash))
+    (r#"{"a":1}"#, r#"[{"op":"remove","path":""}]"#, Some(0), Cause::Pointer("path", WholeValue))
+    ("{}", r#"[{"op":"test","path":"/a","value":null}]"#, Some(0), Cause::Pointer("path", Missing { token: 0, reason: NoMember }))
+    ("{}", r#"[{"op":"replace","path":"/a","value":null}]"#, Some(0), Cause::Pointer("path", Missing { token: 0, reason: NoMember }))
+    ("[1,2]", r#"[{"op":"add","path":"/3","value":0}]"#, Some(0), Cause::Pointer("path", Missing { token: 0, reason: OutOfRange }))
+    ("[1,2]", r#"[{"op":"add","path":"/-1","value":0}]"#, Some(0), Cause::Pointer("path", Missing { token: 0, reason: NotAnIndex }))
+    ("[1,2]", r#"[{"op":"add","path":"/01","value":0}]"#, Some(0), Cause::Pointer("path", Missing { token: 0, reason: NotAnIndex }))
+    ("[1,2]", r#"[{"op":"add","path":"/1e0","value":0}]"#, Some(0), Cause::Pointer("path", Missing { token: 0, reason: NotAnIndex }))
+    ("[1,2]", r#"[{"op":"add","path":"/+1","value":0}]"#, Some(0), Cause::Pointer("path", Missing { token: 0, reason: NotAnIndex }))
+    ("[1,2]", r#"[{"op":"add","path":"/","value":0}]"#, Some(0), Cause::Pointer("path", Missing { token: 0, reason: NotAnIndex }))
+    ("[1,2]", r#"[{"op":"add","path":"/a","value":0}]"#, Some(0), Cause::Pointer("path", Missing { token: 0, reason: NotAnIndex }))
+    ("[1,2]", r#"[{"op":"add","path":"/0/a","value":0}]"#, Some(0), Cause::Pointer("path", Missing { token: 1, reason: NoChildren }))
+    ("[1,2]", r#"[{"op":"remove","path":"/-"}]"#, Some(0), Cause::Pointer("path", Missing { token: 0, reason: NotAnIndex }))
+    ("[1,2]", r#"[{"op":"remove","path":"/2"}]"#, Some(0), Cause::Pointer("path", Missing { token: 0, reason: OutOfRange }))
+    ("[1,2]", r#"[{"op":"replace","path":"/-","value":0}]"#, Some(0), Cause::Pointer("path", Missing { token: 0, reason: NotAnIndex }))
+    ("[1,2]", r#"[{"op":"replace","path":"/2","value":0}]"#, Some(0), Cause::Pointer("path", Missing { token: 0, reason: OutOfRange }))
+    (r#"{"a":{"b":1}}"#, r#"[{"op":"move","from":"/a","path":"/a/b"}]"#, Some(0), Cause::IntoItself)
+    (r#"{"a":{"b":1}}"#, r#"[{"op":"move","from":"","path":"/a"}]"#, Some(0), Cause::IntoItself)
+    (r#"{"a":1}"#, r#"[{"op":"move","from":"/b","path":"/b"}]"#, Some(0), Cause::Pointer("from", Missing { token: 0, reason: NoMember }))
+    (r#"{"a":1}"#, r#"[{"op":"copy","from":"/b","path":"/a"}]"#, Some(0), Cause::Pointer("from", Missing { token: 0, reason: NoMember }))
+    (r#"{"a":1,"b":2}"#, r#"[{"op":"move","from":"/a","path":"/c/d"}]"#, Some(0), Cause::Pointer("path", Missing { token: 0, reason: NoMember }))
+    (r#"{"a":1,"b":[1]}"#, r#"[{"op":"remove","path":"/a"},{"op":"add","path":"/b/0","value":0},{"op":"test","path":"/b/0","value":9}]"#, Some(2), Cause::TestFailed)
+};
+
+#[test]
+fn changes_nothing_after_an_error(rt: HostRuntime) -> Tested {
+    for (before, text, operation, cause) in REFUSED {
+        let mut value = jzon::parse(rt.alloc(), before)?;
+        let patch = jzon::parse(rt.alloc(), text)?;
+        let outcome = patch::apply(rt.alloc(), &mut value, &patch);
+        let error = PatchError {
+            operation: *operation,
+            cause: *cause,
+        };
+        expect_eq(&rt, text, outcome, Err(error));
+        expect_dump(&rt, &value, before)?;
+    }
+    Ok(())
+}
+
+/// Appendix A.13: a member twice. The strict reading of the text refuses it.
+#[test]
+fn refuses_a_member_twice(rt: HostRuntime) -> Tested {
+    let text = r#"[{"op":"add","path":"/baz","value":"qux","op":"remove"}]"#;
+    expect(
+        &rt,
+        text,
+        jzon::parse_as(rt.alloc(), text, &jzon::Reading::STRICT).is_err(),
+    );
+    Ok(())
+}
+
+/// The words of errors.
+const WORDS: &[(Option<usize>, Cause, &str)] = rows! {
+    (None, Cause::NotAnArray, "the patch isn't an array")
+    (Some(2), Cause::TestFailed, "operation 2: test failed")
+    (Some(0), Cause::Missing("op"), "operation 0: `op` is missing")
+    (Some(1), Cause::Pointer("from", NoSlash), "operation 1: `from`: The pointer begins with no /")
+};
+
+#[test]
+fn shows_errors(rt: HostRuntime) -> Tested {
+    for (operation, cause, words) in WORDS {
+        let error = PatchError {
+            operation: *operation,
+            cause: *cause,
+        };
+        let text = format!(in rt.alloc(); "{error}")?;
+        expect_eq(&rt, words, text.as_str(), *words);
+    }
+    Ok(())
+}
+
+/// A value, a patch that changes it, and the number of allocations. Tests, and one change after
+/// them, clone nothing of the value; a move, or two changes, clone it once.
+const ALLOCATING: &[(&str, &str, usize)] = rows! {
+    (r#"{"a":[1]}"#, r#"[{"op":"test","path":"/a","value":[1]},{"op":"remove","path":"/a"}]"#, 0)
+    (r#"{"a":[1]}"#, r#"[{"op":"replace","path":"/a","value":2}]"#, 0)
+    ("[1]", r#"[{"op":"add","path":"/-","value":[2]}]"#, 2)
+    ("[[1]]", r#"[{"op":"copy","from":"/0","path":"/0"}]"#, 2)
+    ("[[1],2]", r#"[{"op":"move","from":"/0","path":"/1"}]"#, 2)
+    ("[[1],2]", r#"[{"op":"remove","path":"/0"},{"op":"remove","path":"/0"}]"#, 2)
+};
+
+/// One run. Whether an allocation failed: then the value is as it was.
+fn run(
+    rt: &impl Tester,
+    before: &JsonValue,
+    text: &str,
+    patch: &JsonValue,
+    refusals: &mut Refusals,
+) -> std::result::Result<bool, Fail> {
+    let mut value = before.clone(rt.alloc())?;
+    refusals.begin();
+    let outcome = patch::apply(rt.alloc(), &mut value, patch);
+    let has_failed = refusals.has_failed();
+    if has_failed {
+        let cause = outcome.map_err(|error| error.cause);
+        expect_eq(rt, text, cause, Err(Cause::OutOfMemory));
+        expect(rt, text, value == *before);
+    } else {
+        expect_eq(rt, text, outcome, Ok(()));
+        expect(rt, text, value != *before);
+    }
+    Ok(has_failed)
+}
+
+#[test]
+fn applies_under_refusals(rt: HostRuntime) -> Tested {
+    for (before, text, count) in ALLOCATING {
+        let before = jzon::parse(rt.alloc(), before)?;
+        let patch = jzon::parse(rt.alloc(), text)?;
+        let mut refusals = Refusals::new(rt.alloc());
+        for _ in 0..RUNS_MAX {
+            refusals.open();
+            let has_failed = run(&rt, &before, text, &patch, &mut refusals)?;
+            refusals.close();
+            if !has_failed {
+                break;
+            }
+        }
+        refusals.report(&rt, text, *count)?;
+    }
+    Ok(())
+}
+
+/// An error is shown with its pointer, which the patch has.
+#[test]
+fn shows_pointers(rt: HostRuntime) -> Tested {
+    let text = r#"[{"op":"copy","from":"/x","path":"/b"},{"op":"test","path":"/b/0","value":9}]"#;
+    let patch = jzon::parse(rt.alloc(), text)?;
+    for (operation, cause, words) in SHOWN {
+        let error = PatchError {
+            operation: *operation,
+            cause: *cause,
+        };
+        let shown = format!(in rt.alloc(); "{}", error.shown(&patch))?;
+        expect_eq(&rt, words, shown.as_str(), *words);
+    }
+    Ok(())
+}
+
+/// Errors, and their words with the pointer.
+const SHOWN: &[(Option<usize>, Cause, &str)] = rows! {
+    (Some(1), Cause::TestFailed, "operation 1: /b/0: test failed")
+    (Some(0), Cause::Pointer("from", NoSlash), "operation 0: /x: `from`: The pointer begins with no /")
+    (Some(7), Cause::NotAnObject, "operation 7: not an object")
+    (None, Cause::NotAnArray, "the patch isn't an array")
+};
