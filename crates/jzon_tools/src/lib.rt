@@ -4,6 +4,7 @@
 #![tactic(auto)]
 
 pub mod canonical;
+pub mod decode;
 pub mod merge;
 pub mod patch;
 pub mod pointer;

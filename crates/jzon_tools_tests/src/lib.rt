@@ -7,6 +7,8 @@ mod canonical;
 #[cfg(test)]
 mod common;
 #[cfg(test)]
+mod decode;
+#[cfg(test)]
 mod examples;
 #[cfg(test)]
 mod merge;

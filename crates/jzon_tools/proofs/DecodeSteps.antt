@@ -1,0 +1,126 @@
+-- The pointer of an error of a reading, with a step before it.
+use Rattle.std.proofs.Common.{◌≡◌, ◌≢◌, ◌<◌, ◌^◌, ℕ, zero, suc, List, [], ◌∷◌, ◌++◌, length, get_or, Bool, true, false, ◌==◌, if◌then◌else◌}
+use Rattle.std.proofs.Common.{Option, None, Some, option_map, option_and_then, slice_get, Result, Ok, Err, string_bytes}
+use Rattle.std.proofs.Common.{refl, sym, ap, ◌∙◌, subst, arith, append_assoc, append-nil}
+use Rattle.std.proofs.lemmas.Bool.Decides.{nat_tests}
+use Rattle.std.specs.Option.{ok_or}
+use Rattle.std.specs.Result.{result_ok}
+use Rattle.std.specs.declared.alloc.Global.{Global}
+use Rattle.std.specs.declared.string.String.{String}
+use Rattle.jzon.specs.PairList.{find}
+use Rattle.jzon.specs.Readers.{entries, is_object}
+use Rattle.jzon.specs.Value.{Value, null, boolean, text, number, array, object, list_of_pairs}
+use Rattle.jzon_tools.specs.Decode.{IsErrorIn, moved_to, pointer_of}
+use Rattle.jzon_tools.specs.Escaped.{escape_of, escaped}
+use Rattle.jzon_tools.specs.Pointer.{and_then, child_of, found, tokens_in, tokens_of, unescaped, value_at}
+use Rattle.jzon_tools.specs.declared.decode.error.DecodeError.{DecodeError}
+use Rattle.jzon_tools.specs.declared.decode.error.DecodeError.TheVariants.{Json, Wrong, Missing, Unknown}
+use Rattle.jzon_tools.specs.declared.pointer.PointerError.{PointerError}
+use Rattle.jzon_tools.specs.declared.pointer.PointerError.TheVariants.{NoSlash}
+use Rattle.jzon_tools.proofs.ChangeLaws.{found-down}
+use Rattle.jzon_tools.proofs.PlaceSteps.{value-of-tokens}
+use Rattle.jzon_tools.proofs.TokenSteps.{Lacks, tokens-first, tokens-only}
+
+-- ---- the token of a key
+
+differs : (c d : ℕ) → (c == d) ≡ false → c ≢ d
+differs c d h = grind (arith, nat_tests)
+
+equals : (c d : ℕ) → (c == d) ≡ true → c ≡ d
+equals c d h = grind (arith, nat_tests)
+
+lacks_cons : (c x : ℕ) (xs : List ℕ) → x ≢ c → Lacks c xs → Lacks c (x ∷ xs)
+lacks_cons c x xs n h zero less = n
+lacks_cons c x xs n h (suc i) less = h i (omega arith)
+
+lacks_by : (t s : Bool) (c : ℕ) (es : List ℕ) → (s ≡ false → c ≢ 47) → Lacks 47 es
+    → Lacks 47 ((if t then 126 ∷ 48 ∷ [] else (if s then 126 ∷ 49 ∷ [] else c ∷ [])) ++ es)
+lacks_by true s c es n h = lacks_cons 47 126 (48 ∷ es) (omega arith) (lacks_cons 47 48 es (omega arith) h)
+lacks_by false true c es n h = lacks_cons 47 126 (49 ∷ es) (omega arith) (lacks_cons 47 49 es (omega arith) h)
+lacks_by false false c es n h = lacks_cons 47 c es (n refl) h
+
+pub lacks-escaped : (k : List ℕ) → Lacks 47 (escaped k)
+lacks-escaped [] = λ i less. absurd (omega arith)
+lacks-escaped (c ∷ cs) = lacks_by (c == 126) (c == 47) c (escaped cs) (differs c 47) (lacks-escaped cs)
+
+unescaped_by : (t s : Bool) (c : ℕ) (cs es : List ℕ) → (t ≡ true → c ≡ 126) → (s ≡ true → c ≡ 47)
+    → (t ≡ false → (c == 126) ≡ false) → unescaped es ≡ Some cs
+    → unescaped ((if t then 126 ∷ 48 ∷ [] else (if s then 126 ∷ 49 ∷ [] else c ∷ [])) ++ es) ≡ Some (c ∷ cs)
+unescaped_by true s c cs es tilde slash other h =
+    ap (option_map (λ k. 126 ∷ k)) h ∙ ap (λ (d : ℕ). Some (d ∷ cs)) (sym (tilde refl))
+unescaped_by false true c cs es tilde slash other h =
+    ap (option_map (λ k. 47 ∷ k)) h ∙ ap (λ (d : ℕ). Some (d ∷ cs)) (sym (slash refl))
+unescaped_by false false c cs es tilde slash other h = rw (other refl) (ap (option_map (λ k. c ∷ k)) h)
+
+pub unescaped-escaped : (k : List ℕ) → unescaped (escaped k) ≡ Some k
+unescaped-escaped [] = refl
+unescaped-escaped (c ∷ cs) =
+    unescaped_by (c == 126) (c == 47) c cs (escaped cs) (equals c 126) (equals c 47) (λ h. h) (unescaped-escaped cs)
+
+no_entry : (w : Value) → ◌≡◌ {A = Option Value} None (Some w) → ⊥
+no_entry w h = absurd (cc)
+
+pub key-child : (k : List ℕ) (v w : Value) → find k (entries v) ≡ Some w → child_of v (escaped k) ≡ Some w
+key-child k null w h = absurd (no_entry w h)
+key-child k (boolean b) w h = absurd (no_entry w h)
+key-child k (text s t) w h = absurd (no_entry w h)
+key-child k (number n) w h = absurd (no_entry w h)
+key-child k (array vs) w h = absurd (no_entry w h)
+key-child k (object ps) w h = ap (option_and_then (λ j. find j (list_of_pairs ps))) (unescaped-escaped k) ∙ h
+
+-- ---- a step
+
+ok_from : (r : Result Value PointerError) (w : Value) → result_ok r ≡ Some w → r ≡ Ok w
+ok_from (Ok x) w h = let same : x ≡ w = cc in ap (λ y. Ok y) same
+ok_from (Err e) w h = absurd (cc)
+
+below_tokens : (v c w : Value) (t p : List ℕ) (ts : List (List ℕ)) → tokens_of ((47 ∷ t) ++ p) ≡ Some (t ∷ ts)
+    → child_of v t ≡ Some c → found 0 c ts ≡ Ok w → value_at v ((47 ∷ t) ++ p) ≡ Ok w
+below_tokens v c w t p ts tokens at h =
+    value-of-tokens v ((47 ∷ t) ++ p) (t ∷ ts) tokens ∙ ok_from _ w (found-down v t ts c at ∙ ap result_ok h)
+
+below_by : (b : Bool) (v c w : Value) (t q : List ℕ) (x : ℕ) → Lacks 47 t → child_of v t ≡ Some c
+    → (b ≡ true → x ≡ 47) → and_then (found 0 c) (ok_or (if b then Some (tokens_in q) else None) NoSlash) ≡ Ok w
+    → value_at v ((47 ∷ t) ++ (x ∷ q)) ≡ Ok w
+below_by true v c w t q x lacks at slash h =
+    subst (λ (y : ℕ). value_at v ((47 ∷ t) ++ (y ∷ q)) ≡ Ok w) (sym (slash refl))
+    (below_tokens v c w t (47 ∷ q) (tokens_in q) (ap (λ ts. Some ts) (tokens-first t q lacks)) at h)
+below_by false v c w t q x lacks at slash h = absurd (cc)
+
+-- what a pointer names in a child, it names in the value after the child's token
+pub below-value : (v c w : Value) (t p : List ℕ) → Lacks 47 t → child_of v t ≡ Some c → value_at c p ≡ Ok w
+    → value_at v ((47 ∷ t) ++ p) ≡ Ok w
+below-value v c w t [] lacks at h =
+    below_tokens v c w t [] [] (ap (λ l. Some (tokens_in l)) (append-nil t) ∙ ap (λ ts. Some ts) (tokens-only t lacks)) at h
+below-value v c w t (x ∷ q) lacks at h = below_by (x == 47) v c w t q x lacks at (equals x 47) h
+
+-- an error of a child is one of the value, after the child's token
+pub below-error : (v c : Value) (t : List ℕ) (e : DecodeError) (p : String Global) → Lacks 47 t
+    → child_of v t ≡ Some c → string_bytes p ≡ (47 ∷ t) ++ pointer_of e → IsErrorIn c e → IsErrorIn v (moved_to e p)
+below-error v c t (Json e) p lacks at is h = h
+below-error v c t (Wrong q wanted f) p lacks at is (w, there, says, refused) =
+    (w, ap (value_at v) is ∙ below-value v c w t (string_bytes q) lacks at there, says, refused)
+below-error v c t (Missing q wanted) p lacks at is (r, k, o, cut, there, is_one, last) = (
+  (47 ∷ t) ++ r,
+  k,
+  o,
+  is ∙ ap (λ l. (47 ∷ t) ++ l) cut ∙ sym (append_assoc (47 ∷ t) r (47 ∷ escaped k)),
+  below-value v c o t r lacks at there,
+  is_one,
+  last,
+)
+below-error v c t (Unknown q names) p lacks at is (r, k, o, cut, there, is_one, last) = (
+  (47 ∷ t) ++ r,
+  k,
+  o,
+  is ∙ ap (λ l. (47 ∷ t) ++ l) cut ∙ sym (append_assoc (47 ∷ t) r (47 ∷ escaped k)),
+  below-value v c o t r lacks at there,
+  is_one,
+  last,
+)
+
+-- ---- errors of the value itself
+
+pub key-pointer : (p : String Global) (k : List ℕ) → string_bytes p ≡ (47 ∷ escaped k) ++ []
+    → string_bytes p ≡ [] ++ 47 ∷ escaped k
+key-pointer p k is = is ∙ append-nil (47 ∷ escaped k)

@@ -1,0 +1,12 @@
+use Rattle.std.proofs.Common.{◌∷◌, ◌++◌, sym, ap, ◌∙◌, subst}
+use Rattle.jzon_tools.specs.Decode.{IsErrorIn}
+use Rattle.jzon_tools.specs.Escaped.{escaped}
+use Rattle.jzon_tools.proofs.DecodeSteps.{below-error, key-child, lacks-escaped}
+use Rattle.jzon_tools.proofs.decode.error.DecodeError.below_key.Goals as goal
+
+pub returns-in-Ok : goal.returns-in-Ok
+returns-in-Ok c = λ v w entry error.
+    let key = c.args.key.now in
+    subst (IsErrorIn v) (sym c.moved.ensures)
+    (below-error v w (escaped key) c.args.self c.in-Ok.pointer (lacks-escaped key) (key-child key v w entry)
+    (c.in-Ok.ensures ∙ ap (λ l. (47 ∷ escaped key) ++ l) c.pointer.ensures) error)

@@ -1,0 +1,54 @@
+//! A step before a JSON pointer (RFC 6901, sections 3 and 4).
+
+ghost use Rattle.std.specs.Prelude.{◌≡◌, ◌∷◌, ◌++◌, IfOk, OnOk, string_bytes};
+ghost use Rattle.std.specs.Fmt.{decimal};
+ghost use Rattle.jzon_tools.specs.Escaped.{escaped, slashed};
+
+use std::alloc::{AllocError, Global};
+use std::fmt::Write;
+use std::result::Result;
+
+/// A slash, the key as a token, and the pointer.
+pub fn below_key(alloc: Global, key: &str, pointer: &str) -> Result<String, AllocError>
+    ensures { IfOk result (λ t. string_bytes t ≡ 47 ∷ escaped key.now ++ pointer.now) }
+{
+    let mut text = String::new(alloc);
+    text.push_str("/")?;
+    push_escaped(&mut text, key)?;
+    text.push_str(pointer)?;
+    Ok(text)
+}
+
+/// A slash, the index, and the pointer.
+pub fn below_index(alloc: Global, index: usize, pointer: &str) -> Result<String, AllocError>
+    ensures { IfOk result (λ t. string_bytes t ≡ 47 ∷ decimal index ++ pointer.now) }
+{
+    format!(in alloc; "/{index}{pointer}")
+}
+
+/// The token of a key: `~0` for each `~`, and `~1` for each `/`.
+fn push_escaped(text: &mut String, key: &str) -> Result<(), AllocError>
+    ensures { OnOk result (string_bytes text.new ≡ string_bytes text.old ++ escaped key.now) }
+{
+    let mut rest = key;
+    'escapes: while let Some((plain, after)) = rest.split_once('~') {
+        push_slashed(text, plain)?;
+        text.push_str("~0")?;
+        rest = after;
+    }
+    push_slashed(text, rest)
+}
+
+/// `~1` for each `/`.
+fn push_slashed(text: &mut String, key: &str) -> Result<(), AllocError>
+    ensures { OnOk result (string_bytes text.new ≡ string_bytes text.old ++ slashed key.now) }
+{
+    let mut rest = key;
+    'escapes: while let Some((plain, after)) = rest.split_once('/') {
+        text.push_str(plain)?;
+        text.push_str("~1")?;
+        rest = after;
+    }
+    text.push_str(rest)?;
+    Ok(())
+}
