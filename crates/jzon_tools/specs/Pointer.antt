@@ -152,3 +152,8 @@ ChangesAt v ts old new w = ((i : ℕ) → found i v ts ≡ Ok old) × (updated (
 -- the tokens lead to no value, and w is v
 abbrev pub LacksAt : Value → List (List ℕ) → Value → Type 0
 LacksAt v ts w = ((i : ℕ) → IsErr (found i v ts)) × (w ≡ v)
+
+-- a pointer's tokens are these and then this one
+pub record IsLast (path : List ℕ) (ts : List (List ℕ)) (t : List ℕ) : Type 0 where
+  pub tokens : tokens_of path ≡ Some (ts ++ t ∷ [])
+  pub entry : (v : Value) → entry_at v path ≡ value_at v path

@@ -17,7 +17,7 @@ ghost use Rattle.jzon.specs.PairList.{find};
 ghost use Rattle.jzon.specs.Value.{Value, array, values_of};
 ghost use Rattle.jzon.specs.View.{view, view_object};
 ghost use Rattle.jzon_tools.specs.ErrorTexts.{pointer_error_kind, pointer_error_text, reason_text};
-ghost use Rattle.jzon_tools.specs.Pointer.{child_of, entry_at, inserted_at, new_index, reason_of, removed_at, tokens_left, tokens_of, unescaped, updated_at, value_at, with_new, without, ChangesAt, LacksAt};
+ghost use Rattle.jzon_tools.specs.Pointer.{child_of, entry_at, inserted_at, new_index, reason_of, removed_at, tokens_left, tokens_of, unescaped, updated_at, value_at, with_new, without, ChangesAt, IsLast, LacksAt};
 ghost use Rattle.jzon_tools.specs.declared.pointer.PointerError.TheVariants.{NoSlash, OutOfMemory};
 
 use crate::token::{
@@ -209,10 +209,7 @@ pub fn insert(
         ⊎ ((inserted_at (view new) (view value.old) path.now ≡ None)
         × (entry_at (view value.old) path.now ≡ Err e))) }
 {
-    let Some((parent, token)) = path.rsplit_once('/') else {
-        return Err(no_parent(path));
-    };
-    let left = after_slash(parent)?;
+    let (left, token) = split_last(path)?;
     match change_at(value, left, |place| insert_child(alloc, place, token, new)) {
         Some(Ok(true)) => Ok(()),
         Some(Err(_error)) => Err(PointerError::OutOfMemory),
@@ -228,10 +225,7 @@ pub fn remove(value: &mut JsonValue, path: &str) -> Result<JsonValue, PointerErr
     ensures err { OnErr result (view value.new ≡ view value.old) }
     ensures error { IfErr result (λ e. entry_at (view value.old) path.now ≡ Err e) }
 {
-    let Some((parent, token)) = path.rsplit_once('/') else {
-        return Err(no_parent(path));
-    };
-    let left = after_slash(parent)?;
+    let (left, token) = split_last(path)?;
     match change_at(value, left, |place| remove_child(place, token)) {
         Some(Some(old)) => Ok(old),
         Some(None) => Err(why_none(value, path)),
@@ -253,6 +247,19 @@ fn after_slash(path: &str) -> Result<Option<&str>, PointerError>
         Some(text) => Ok(Some(text)),
         None => Err(PointerError::NoSlash),
     }
+}
+
+/// The text of the tokens before the last, as `after_slash` returns it, and the last token.
+fn split_last(path: &str) -> Result<(Option<&str>, &str), PointerError>
+    ensures last { IfOk result (λ r. IsLast path.now (tokens_left (option_copied r.0)) r.1.now) }
+    ensures error { IfErr result (λ e. (v : Value) → entry_at v path.now ≡ Err e) }
+    ensures nothing { IfErr result (λ _. (w v : Value) → inserted_at w v path.now ≡ None) }
+{
+    let Some((parent, token)) = path.rsplit_once('/') else {
+        return Err(no_parent(path));
+    };
+    let left = after_slash(parent)?;
+    Ok((left, token))
 }
 
 /// Why a pointer without a slash has no last token.
