@@ -179,13 +179,27 @@ def rattle_build(source, *deps, is_program=False):
     return build(["rt", "run"], crate, crate / "out/calls", 1)
 
 
-def cargo_build(checkout, source):
-    """Builds a program of Rust over a checkout of the crate `jzon`."""
-    folder = ROOM / source
-    (folder / "src").mkdir(parents=True, exist_ok=True)
+def cargo_build(source, dependencies, kind=""):
+    """Builds a program of Rust with these lines of dependencies. Crates of a registry are Debian's."""
+    folder = ROOM / (source + kind)
+    for part in ("src", ".cargo"):
+        (folder / part).mkdir(parents=True, exist_ok=True)
     shutil.copy(HERE / source, folder / "src/main.rs")
     package = '[package]\nname = "beside"\nversion = "0.1.0"\nedition = "2021"\n'
-    (folder / "Cargo.toml").write_text(
-        f'{package}[dependencies]\njzon = {{ path = "{os.path.realpath(checkout)}" }}\n', "utf-8"
+    (folder / "Cargo.toml").write_text(f"{package}[dependencies]\n{dependencies}\n", "utf-8")
+    (folder / ".cargo/config.toml").write_text(
+        '[source.crates-io]\nreplace-with = "debian"\n[source.debian]\ndirectory = "/usr/share/cargo/registry"\n', "utf-8"
     )
     return build(["cargo", "build", "--release"], folder, folder / "target/release/beside", 0)
+
+
+def rust_build(checkout, source):
+    """Builds a program of Rust over a checkout of the crate `jzon`."""
+    return cargo_build(source, f'jzon = {{ path = "{os.path.realpath(checkout)}" }}')
+
+
+def serde_build(keeps_order):
+    """Builds the program over Rust's serde_json, whose objects keep the order of entries or sort them."""
+    features = ', features = ["preserve_order"]' * keeps_order
+    lines = f'serde = "1"\nserde_json = {{ version = "1"{features} }}'
+    return cargo_build("serde.rs", lines, "-ordered" * keeps_order)
