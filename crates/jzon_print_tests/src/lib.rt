@@ -2,7 +2,7 @@
 //!
 //! - `printing`: what the calls print of one value, and what generators consume
 //! - `display`: what `{}` shows
-//! - `layouts`, `generators`, `hooks`: a user's own ones and the library's
+//! - `layouts`, `generators`, `sorting`, `hooks`: a user's own ones and the library's
 //! - `writers`: writers that fail
 //! - `memory`: what printing allocates, also where that fails
 //! - `whole`, `large`: all calls that print, copy or hold a value, on each kind of value, and on
@@ -25,6 +25,8 @@ mod layouts;
 mod memory;
 #[cfg(test)]
 mod printing;
+#[cfg(test)]
+mod sorting;
 #[cfg(test)]
 mod whole;
 #[cfg(test)]
