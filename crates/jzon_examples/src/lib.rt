@@ -9,5 +9,4 @@ pub mod from_rust;
 pub mod line_filter;
 pub mod round_trip;
 pub mod server_record;
-pub mod sorted_layout;
 pub mod writing;

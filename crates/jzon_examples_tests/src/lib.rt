@@ -33,8 +33,6 @@ mod round_trip;
 #[cfg(test)]
 mod server_record;
 #[cfg(test)]
-mod sorted_layout;
-#[cfg(test)]
 mod tabs;
 #[cfg(test)]
 mod writing;

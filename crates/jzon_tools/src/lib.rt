@@ -9,4 +9,5 @@ pub mod merge;
 pub mod patch;
 pub mod pointer;
 pub mod redact;
+pub mod sorted_layout;
 mod token;

@@ -18,3 +18,5 @@ mod patch;
 mod pointer;
 #[cfg(test)]
 mod redact;
+#[cfg(test)]
+mod sorted_layout;

@@ -28,7 +28,7 @@ pub(super) const NEWLINE_AND_SPACES: [u8; 64] =
 /// object's entries. `JsonValue::lay_out` and `write_layout` take one, and `TextGenerator`.
 ///
 /// Write one for another order. It has a style and two methods; this one, the example
-/// `sorted_layout` of `jzon_examples`, sorts by key:
+/// `sorted_layout` of `jzon_tools`, sorts by key:
 ///
 /// ```rust
 /// fn spaces(&self) -> Option<u16> {

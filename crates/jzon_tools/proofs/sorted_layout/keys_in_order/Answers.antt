@@ -1,7 +1,7 @@
 use Rattle.jzon.specs.Entries.{entries_of}
 use Rattle.jzon.specs.PairList.{keys_of}
 use Rattle.jzon.proofs.KeyOrder.{key_taken, keys_taken}
-use Rattle.jzon_examples.proofs.sorted_layout.keys_in_order.Goals as goal
+use Rattle.jzon_tools.proofs.sorted_layout.keys_in_order.Goals as goal
 
 pub loop-key-preserved : goal.loop-key-preserved
 loop-key-preserved c =
