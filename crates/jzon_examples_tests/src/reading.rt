@@ -103,6 +103,10 @@ const EXPLAINED: &[(&str, &str)] = &[
     ("", "f:1:1: Unexpected end of JSON\n\n^"),
     ("[1,\n", "f:2:1: Unexpected end of JSON\n\n^"),
     (
+        "{\n\t\"a\": 1\n\t\"b\": 2\n}",
+        "f:3:2: Unexpected character: \" at (3:2)\n\t\"b\": 2\n\t^",
+    ),
+    (
         "[\"é\"\n, \"\\udc00\\udc00\"]",
         "f:2:15: Failed to parse UTF-8 bytes\n, \"\\udc00\\udc00\"]\n              ^",
     ),

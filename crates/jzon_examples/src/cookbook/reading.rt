@@ -48,7 +48,10 @@ pub fn explained(alloc: Global, file: &str, text: &str, located: &LocatedError) 
     let shown = from_character(faulty, skipped);
     let after = from_character(shown, 80);
     let shown = shown.strip_suffix(after).unwrap_or(shown);
-    let indent = " ".repeat(alloc, column.saturating_sub(skipped).saturating_sub(1))?;
+    let mut indent = String::new(alloc);
+    for character in shown.chars().take(column.saturating_sub(skipped).saturating_sub(1)) {
+        indent.push(if character == '\t' { '\t' } else { ' ' })?;
+    }
     Ok(format!(in alloc; "{file}:{line}:{column}: {error}\n{shown}\n{indent}^")?)
 }
 
@@ -91,34 +94,23 @@ pub fn parse_all(alloc: Global, texts: &str) -> Result<Vec<JsonValue>> {
 }
 
 /// Adds the value of the first text, and returns what follows this text: the first text ends where
-/// `parse` finds the next one to begin.
+/// `parse_located` finds the next one to begin.
 fn add_first<'a>(alloc: Global, texts: &'a str, values: &mut Vec<JsonValue>) -> Result<&'a str> {
-    let error = match jzon::parse(alloc, texts) {
+    let located = match jzon::parse_located(alloc, texts, &Reading::USUAL) {
         Ok(value) => {
             values.push(value)?;
             return Ok("");
         }
-        Err(error) => error,
+        Err(located) => located,
     };
-    let Some((first, later)) = split_at_error(texts, &error) else {
-        return Err(error);
+    let parts = located.place.and_then(|place| texts.split_at_checked(place.offset));
+    let Some((first, later)) = parts else {
+        return Err(located.error);
     };
     match jzon::parse(alloc, first) {
         Ok(value) => values.push(value)?,
         Err(Error::OutOfMemory) => return Err(Error::OutOfMemory),
-        Err(_) => return Err(error),
+        Err(_) => return Err(located.error),
     }
     Ok(later)
-}
-
-/// What is before the position of an error, and what is from there on.
-fn split_at_error<'a>(text: &'a str, error: &Error) -> Option<(&'a str, &'a str)> {
-    let lines_before = error.line()?.checked_sub(1)?;
-    let characters_before = error.column()?.checked_sub(1)?;
-    let start = match lines_before.checked_sub(1) {
-        Some(index) => text.match_indices('\n').nth(index)?.0.checked_add(1)?,
-        None => 0,
-    };
-    let (offset, _) = text.get(start..)?.char_indices().nth(characters_before)?;
-    text.split_at_checked(start.checked_add(offset)?)
 }
