@@ -2,30 +2,64 @@
 
 use crate::common::{Tested, Tester, expect, expect_eq, is_entry};
 use jzon::object::Object;
-use jzon::{JsonValue, parse};
-use jzon_test_support::{keys_by_hash, keys_of_one_hash, object_text};
+use jzon::{JsonValue, Reading, parse_as};
+use jzon_test_support::{KEY_ORDERS, keys_in, keys_of_one_hash, object_text};
 use std::alloc::{AllocError, Global};
 
 /// The object of these keys has each of them, and no other.
 fn expect_keys(rt: &impl Tester, keys: &[String]) -> Tested {
     let text = object_text(rt.alloc(), keys)?;
-    let value = parse(rt.alloc(), text.as_str())?;
-    expect_eq(rt, "the number of keys", value.len(), keys.len());
-    for key in keys {
-        expect(rt, key.as_str(), value.has_key(key.as_str()));
+    for reading in [Reading::USUAL, Reading::STRICT] {
+        let value = parse_as(rt.alloc(), text.as_str(), &reading)?;
+        expect_eq(rt, "the number of keys", value.len(), keys.len());
+        let found = keys
+            .iter()
+            .filter(|key| value.has_key(key.as_str()))
+            .count();
+        expect_eq(rt, "the keys that are found", found, keys.len());
+        expect(rt, "another", !value.has_key("another"));
     }
-    expect(rt, "another", !value.has_key("another"));
     Ok(())
 }
 
 #[test]
-fn finds_keys_in_ascending_order_of_hash(rt: HostRuntime) -> Tested {
-    expect_keys(&rt, &keys_by_hash(rt.alloc(), 100000)?)
+fn finds_keys_in_each_order(rt: HostRuntime) -> Tested {
+    for order in KEY_ORDERS {
+        expect_keys(&rt, &keys_in(rt.alloc(), *order, 100000)?)?;
+    }
+    Ok(())
 }
 
 #[test]
 fn finds_keys_of_one_hash(rt: HostRuntime) -> Tested {
     expect_keys(&rt, &keys_of_one_hash(rt.alloc(), 2000)?)
+}
+
+/// Inserts the keys into an empty object, and looks for each.
+fn fill(rt: &impl Tester, object: &mut Object, keys: &[String]) -> Tested {
+    for key in keys {
+        object.insert(rt.alloc(), key.as_str(), JsonValue::Null)?;
+    }
+    let found = keys
+        .iter()
+        .filter(|key| object.get(key.as_str()).is_some())
+        .count();
+    expect_eq(rt, "keys", (object.len(), found), (keys.len(), keys.len()));
+    Ok(())
+}
+
+/// With the room that it kept, a cleared object takes no more time than a new one: 700,000 keys that
+/// were moved one by one would take more than a minute.
+#[test]
+fn fills_a_cleared_object(rt: HostRuntime) -> Tested {
+    for order in KEY_ORDERS {
+        let keys = keys_in(rt.alloc(), *order, 700000)?;
+        let mut object = Object::new(rt.alloc());
+        fill(&rt, &mut object, keys.as_slice())?;
+        object.clear();
+        fill(&rt, &mut object, keys.as_slice())?;
+    }
+    Ok(())
 }
 
 fn key(alloc: Global, number: u64) -> Result<String, AllocError> {

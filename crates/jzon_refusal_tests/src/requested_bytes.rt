@@ -10,7 +10,7 @@ use jzon::lent::{write_at, write_at_index, write_present};
 use jzon::object::{Key, Object};
 use jzon::short::Short;
 use jzon::{IntoJson, Reading, parse_as};
-use jzon_test_support::{joined, keys_by_hash};
+use jzon_test_support::{joined, keys_by_hash, object_text};
 use std::fmt::Write;
 use std::{fmt, io};
 
@@ -591,5 +591,18 @@ fn capacity_counted(rt: HostRuntime) -> Tested {
         object.insert(alloc, key.as_str(), JsonValue::Null)?;
     }
     refusals.expect_within(&rt, "Object::with_capacity", MOST_OF_INDEX)?;
+    Ok(())
+}
+
+/// The index of a strict reading is the object's: a new key with memory of its own needs only that.
+#[test]
+fn strict_index_counted(rt: HostRuntime) -> Tested {
+    let alloc = rt.alloc();
+    let text = object_text(alloc, keys_by_hash(alloc, 70)?.as_slice())?;
+    let mut value = parse_as(alloc, text.as_str(), &Reading::STRICT)?;
+    let mut refusals = Refusals::new(alloc);
+    refusals.open();
+    value.insert(alloc, LONG_KEY, JsonValue::Null)?;
+    refusals.expect_within(&rt, "insert after a strict reading", LONG_KEY.len())?;
     Ok(())
 }

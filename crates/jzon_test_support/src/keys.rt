@@ -19,6 +19,33 @@ pub fn keys_by_hash(alloc: Global, count: u32) -> Result<Vec<String>, AllocError
     Ok(keys)
 }
 
+/// An order of keys.
+#[derive(Clone, Copy)]
+pub enum KeyOrder {
+    /// That of the numbers that they spell: their hashes are in no order.
+    Number,
+    /// Ascending, by their hashes: each goes to the end of an index.
+    Hash,
+    /// Descending, by their hashes: each goes to the start of an index.
+    HashDown,
+}
+
+/// Each order.
+pub const KEY_ORDERS: &[KeyOrder] = &[KeyOrder::Number, KeyOrder::Hash, KeyOrder::HashDown];
+
+/// The digits of the numbers below `count`, in this order.
+pub fn keys_in(alloc: Global, order: KeyOrder, count: u32) -> Result<Vec<String>, AllocError> {
+    match order {
+        KeyOrder::Number => digits_below(alloc, count),
+        KeyOrder::Hash => keys_by_hash(alloc, count),
+        KeyOrder::HashDown => {
+            let mut keys = keys_by_hash(alloc, count)?;
+            keys.reverse();
+            Ok(keys)
+        }
+    }
+}
+
 /// `count` keys whose hash is 0: zero bytes appended to a key of hash 0 don't change its hash.
 pub fn keys_of_one_hash(alloc: Global, count: usize) -> Result<Vec<String>, AllocError> {
     let mut keys = Vec::new(alloc);

@@ -9,7 +9,9 @@ mod slow_writer;
 mod values;
 
 pub use failing_formatter::{FailingFormatter, show_failing};
-pub use keys::{digits_below, keys_by_hash, keys_of_one_hash, object_text};
+pub use keys::{
+    KEY_ORDERS, KeyOrder, digits_below, keys_by_hash, keys_in, keys_of_one_hash, object_text,
+};
 pub use refusals::{RUNS_MAX, Refusals};
 pub use slow_writer::{FAILURES, NO_FAILING_CALL, SlowWriter, Trouble, WORDS, is_same_error};
 use std::alloc::{AllocError, AllocGlobal, Global};

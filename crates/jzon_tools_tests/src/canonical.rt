@@ -237,10 +237,17 @@ const REFUSED_ROWS: &[Row] = rows! {
     (Call::Text, "canonical_text", "{\"b\":1.50,\"a\":[-0]}", "{\"a\":[0],\"b\":1.5}", 4)
     (Call::Sorted, "sorted", "{\"b\":1.50,\"a\":[-0]}", "{\"a\":[-0],\"b\":1.50}", 5)
     (Call::SortKeys, "sort_keys", "{\"b\":1.50,\"a\":[-0]}", "{\"a\":[-0],\"b\":1.50}", 5)
+    (Call::Sorted, "sorted, nine keys", NINE, NINE_SORTED, 4)
     (Call::Text, "canonical_text, allocated parts", LONG, LONG_SORTED, 6)
     (Call::Sorted, "sorted, allocated parts", LONG, LONG_SORTED, 10)
     (Call::SortKeys, "sort_keys, allocated parts", LONG, LONG_SORTED, 10)
 };
+
+/// An object whose room doesn't grow step by step.
+const NINE: &str = "{\"i\":9,\"h\":8,\"g\":7,\"f\":6,\"e\":5,\"d\":4,\"c\":3,\"b\":2,\"a\":1}";
+
+const NINE_SORTED: &str =
+    "{\"a\":1,\"b\":2,\"c\":3,\"d\":4,\"e\":5,\"f\":6,\"g\":7,\"h\":8,\"i\":9}";
 
 /// A key of 33 bytes, with an object that has a string of 31 bytes.
 const LONG: &str =

@@ -2,8 +2,8 @@
 
 use crate::common::{Tested, Tester, expect, expect_dump, expect_eq};
 use jzon::codegen::{Generator, TextGenerator, write_json};
-use jzon_tools::sorted_layout::{Sorted, sorted_text};
 use jzon_test_support::{RUNS_MAX, Refusals, keys_by_hash, object_text};
+use jzon_tools::sorted_layout::{Sorted, sorted_text};
 
 /// A text, and the text of its value with sorted keys.
 #[rattlefmt::skip]

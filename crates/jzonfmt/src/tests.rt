@@ -540,10 +540,12 @@ fn prints_more_lines_than_the_buffer_holds(rt: HostRuntime) -> Result<(), Fail> 
 }
 
 /// A layout, how a text of it begins, what comes again and again, how it ends, and the calls of the
-/// writer: 200,003 bytes by 1,024, or 400,006, and the newline.
+/// writer: 200,003 bytes by 1,024, or 400,006, and the newline. A string longer than the buffer is
+/// passed on whole: what is before it, the string, what is behind it, and the newline.
 const SELDOM: &[(Layout, &str, &str, &str, usize)] = &[
     (Layout::Compact, "[1", ",1", "]", 197),
     (Layout::Pretty(1), "[\n 1", ",\n 1", "\n]", 392),
+    (Layout::Compact, "[\"", "p", "\"]", 4),
 ];
 
 /// A full buffer of `write` is written at once.

@@ -49,7 +49,10 @@ pub fn explained(alloc: Global, file: &str, text: &str, located: &LocatedError) 
     let after = from_character(shown, 80);
     let shown = shown.strip_suffix(after).unwrap_or(shown);
     let mut indent = String::new(alloc);
-    for character in shown.chars().take(column.saturating_sub(skipped).saturating_sub(1)) {
+    for character in shown
+        .chars()
+        .take(column.saturating_sub(skipped).saturating_sub(1))
+    {
         indent.push(if character == '\t' { '\t' } else { ' ' })?;
     }
     Ok(format!(in alloc; "{file}:{line}:{column}: {error}\n{shown}\n{indent}^")?)
@@ -103,7 +106,9 @@ fn add_first<'a>(alloc: Global, texts: &'a str, values: &mut Vec<JsonValue>) -> 
         }
         Err(located) => located,
     };
-    let parts = located.place.and_then(|place| texts.split_at_checked(place.offset));
+    let parts = located
+        .place
+        .and_then(|place| texts.split_at_checked(place.offset));
     let Some((first, later)) = parts else {
         return Err(located.error);
     };
