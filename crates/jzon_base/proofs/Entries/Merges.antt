@@ -11,6 +11,7 @@ use Rattle.jzon_base.proofs.Entries.PairPositions.{zip-put_placed, zip-put_missi
 use Rattle.jzon_base.proofs.Entries.PutEach.{put_each-distinct, put_each-zip, IsDistinct-put}
 use Rattle.jzon_base.proofs.KeyIndex.Tables.{IsTable-none, IsTable-push}
 use Rattle.jzon_base.proofs.Entries.Zips.{AreParts-zip}
+use Rattle.jzon_base.specs.declared.keys.entries.IndexEntry.{IndexEntry}
 
 -- ---- an element that is moved into the prefix
 
@@ -85,7 +86,7 @@ module _ {V : Type 0} where
       ∙ sym (fold-append f [] ps ((k, v) ∷ qs))
 
   -- of the entries ps the first `at` are put: they are then the first `kept`, and rs is the index of their keys
-  pub record IsMerging (ps : List (List ℕ × V)) (ks : List (List ℕ)) (vs : List V) (rs : List (List (ℕ × ℕ)))
+  pub record IsMerging (ps : List (List ℕ × V)) (ks : List (List ℕ)) (vs : List V) (rs : List (List IndexEntry))
       (kept at : ℕ) : Type 0 where
     pub counted : length ks ≡ length ps
     pub even : length vs ≡ length ks
@@ -93,7 +94,7 @@ module _ {V : Type 0} where
     pub table : IsTable (take kept ks) rs
     pub same : put_each (zip (take kept ks ++ drop at ks) (take kept vs ++ drop at vs)) ≡ put_each ps
 
-  pub merging_none : (ks : List (List ℕ)) (vs : List V) (rs : List (List (ℕ × ℕ))) → length vs ≡ length ks
+  pub merging_none : (ks : List (List ℕ)) (vs : List V) (rs : List (List IndexEntry)) → length vs ≡ length ks
       → length (all_entries rs) ≡ 0 → IsMerging (zip ks vs) ks vs rs 0 0
   merging_none ks vs rs even none = record {
     counted = omega (arith, length-zip ks vs);
@@ -103,7 +104,7 @@ module _ {V : Type 0} where
     same = refl;
   }
 
-  module _ (ps : List (List ℕ × V)) (ks : List (List ℕ)) (vs : List V) (rs : List (List (ℕ × ℕ))) (kept at : ℕ)
+  module _ (ps : List (List ℕ × V)) (ks : List (List ℕ)) (vs : List V) (rs : List (List IndexEntry)) (kept at : ℕ)
       (m : IsMerging ps ks vs rs kept at) (l : at < length ks) where
     abbrev key : List ℕ
     key = get_or ks at []
@@ -153,7 +154,7 @@ module _ {V : Type 0} where
                 (zip-put_placed key value.0 (take kept ks) (take kept vs) _ refl as_many p e);
           }
 
-    pub merging_new : (ss : List (List (ℕ × ℕ))) → None ≡ position (λ k. bytes_eq k key) (take kept ks)
+    pub merging_new : (ss : List (List IndexEntry)) → None ≡ position (λ k. bytes_eq k key) (take kept ks)
         → IsIndexed (take kept ks ++ key ∷ []) ss
         → IsMerging ps (swap ks kept at) (swap vs kept at) ss (kept + 1) (at + 1)
     merging_new ss e indexed =
@@ -175,7 +176,7 @@ module _ {V : Type 0} where
         }
 
   -- all entries are put
-  pub merging_all : (ps : List (List ℕ × V)) (ks : List (List ℕ)) (vs : List V) (rs : List (List (ℕ × ℕ)))
+  pub merging_all : (ps : List (List ℕ × V)) (ks : List (List ℕ)) (vs : List V) (rs : List (List IndexEntry))
       (kept at : ℕ) → IsMerging ps ks vs rs kept at → length ks ≤ at
       → zip (take kept ks) (take kept vs) ≡ put_each ps
   merging_all ps ks vs rs kept at m all =

@@ -9,8 +9,9 @@ use Rattle.std.proofs.lemmas.List.Folds.{Any-from_list_any}
 use Rattle.std.proofs.lemmas.List.Quantifiers.{all_pairs_remove}
 use Rattle.std.proofs.lemmas.Map.Keys.{IsDistinct-push}
 use Rattle.jzon_base.specs.Private.Hash.{hash_of}
-use Rattle.jzon_base.specs.Private.Keys.{hashed_from, lowered, IsIndex}
+use Rattle.jzon_base.specs.Private.Keys.{hashed_from, index_entry, lowered, IsIndex}
 use Rattle.jzon_base.proofs.KeyIndex.Positions.{position-first, position-None-before}
+use Rattle.jzon_base.specs.declared.keys.entries.IndexEntry.{IndexEntry}
 
 -- ---- the index entry (hash, position) of each key
 
@@ -19,38 +20,38 @@ unfolding hashed_from
 length-hashed_from n [] = refl
 length-hashed_from n (k ∷ ks) = ap suc (length-hashed_from (n + 1) ks)
 
-pub get_or-hashed_from : (ks : List (List ℕ)) (n i : ℕ) (d : ℕ × ℕ) → i < length ks
-    → get_or (hashed_from n ks) i d ≡ (hash_of (get_or ks i []), n + i)
+pub get_or-hashed_from : (ks : List (List ℕ)) (n i : ℕ) (d : IndexEntry) → i < length ks
+    → get_or (hashed_from n ks) i d ≡ index_entry (hash_of (get_or ks i [])) (n + i)
 unfolding hashed_from
 get_or-hashed_from [] n i d l = absurd (omega arith)
-get_or-hashed_from (k ∷ ks) n zero d l = ap (λ (m : ℕ). (hash_of k, m)) (sym (add-zero n))
+get_or-hashed_from (k ∷ ks) n zero d l = ap (index_entry (hash_of k)) (sym (add-zero n))
 get_or-hashed_from (k ∷ ks) n (suc i) d l =
     let e : n + 1 + i ≡ n + suc i = omega arith in
-    get_or-hashed_from ks (n + 1) i d (omega arith) ∙ ap (λ (m : ℕ). (hash_of (get_or ks i []), m)) e
+    get_or-hashed_from ks (n + 1) i d (omega arith) ∙ ap (index_entry (hash_of (get_or ks i []))) e
 
 pub hashed_from-push : (n : ℕ) (ks : List (List ℕ)) (k : List ℕ)
-    → hashed_from n (ks ++ k ∷ []) ≡ hashed_from n ks ++ (hash_of k, n + length ks) ∷ []
+    → hashed_from n (ks ++ k ∷ []) ≡ hashed_from n ks ++ index_entry (hash_of k) (n + length ks) ∷ []
 unfolding hashed_from
-hashed_from-push n [] k = ap (λ (m : ℕ). (hash_of k, m) ∷ []) (sym (add-zero n))
+hashed_from-push n [] k = ap (λ (m : ℕ). index_entry (hash_of k) m ∷ []) (sym (add-zero n))
 hashed_from-push n (x ∷ ks) k =
     let e : n + 1 + length ks ≡ n + suc (length ks) = omega arith in
-    ap (λ ps. (hash_of x, n) ∷ ps) (hashed_from-push (n + 1) ks k
-    ∙ ap (λ (m : ℕ). hashed_from (n + 1) ks ++ (hash_of k, m) ∷ []) e)
+    ap (λ ps. index_entry (hash_of x) n ∷ ps) (hashed_from-push (n + 1) ks k
+    ∙ ap (λ (m : ℕ). hashed_from (n + 1) ks ++ index_entry (hash_of k) m ∷ []) e)
 
 -- p is the index entry of a key
-pub record IsEntry (ks : List (List ℕ)) (p : ℕ × ℕ) : Type 0 where
-  pub within : p.1 < length ks
-  pub own : p.0 ≡ hash_of (get_or ks p.1 [])
+pub record IsEntry (ks : List (List ℕ)) (p : IndexEntry) : Type 0 where
+  pub within : p.position < length ks
+  pub own : p.hash ≡ hash_of (get_or ks p.position [])
 
 All-hashed : (ks : List (List ℕ)) → All (IsEntry ks) (hashed_from 0 ks)
 All-hashed ks i d l =
     let lt : i < length ks = omega (arith, length-hashed_from 0 ks) in
-    let e : get_or (hashed_from 0 ks) i d ≡ (hash_of (get_or ks i []), i) = get_or-hashed_from ks 0 i d lt
-    ∙ ap (λ (m : ℕ). (hash_of (get_or ks i []), m)) (zero-add i) in
+    let e : get_or (hashed_from 0 ks) i d ≡ index_entry (hash_of (get_or ks i [])) i = get_or-hashed_from ks 0 i d lt
+    ∙ ap (index_entry (hash_of (get_or ks i []))) (zero-add i) in
     subst (IsEntry ks) (sym e) (record { within = lt; own = refl })
 
-module _ (ks : List (List ℕ)) (ps : List (ℕ × ℕ)) (index : IsIndex ks ps) where
-  pub entry_at : (j : ℕ) (d : ℕ × ℕ) → j < length ps → IsEntry ks (get_or ps j d)
+module _ (ks : List (List ℕ)) (ps : List IndexEntry) (index : IsIndex ks ps) where
+  pub entry_at : (j : ℕ) (d : IndexEntry) → j < length ps → IsEntry ks (get_or ps j d)
   entry_at = All-permutation (IsEntry ks) (hashed_from 0 ks) ps index.whole (All-hashed ks)
 
 -- ---- a lookup
@@ -118,37 +119,37 @@ IsDistinct-remove ks i l d = IsDistinct-from_AllPairs bytes_eq-Decides _
 -- ---- adding and removing keys
 
 -- the index entry isn't that of position i
-abbrev pub is_other : ℕ → ℕ × ℕ → Bool
-is_other i p = not (eqb p.1 i)
+abbrev pub is_other : ℕ → IndexEntry → Bool
+is_other i p = not (eqb p.position i)
 
-pub kept_by : (i : ℕ) (p : ℕ × ℕ) (ps : List (ℕ × ℕ)) → p.1 ≢ i
+pub kept_by : (i : ℕ) (p : IndexEntry) (ps : List IndexEntry) → p.position ≢ i
     → filter (is_other i) (p ∷ ps) ≡ p ∷ filter (is_other i) ps
-kept_by i p ps ne = rw (ne_eqb p.1 i ne)
+kept_by i p ps ne = rw (ne_eqb p.position i ne)
 
-pub lowered-lower : (i : ℕ) (h n : ℕ) → n < i → lowered i (h, n) ≡ (h, n)
+pub lowered-lower : (i : ℕ) (h n : ℕ) → n < i → lowered i (index_entry h n) ≡ index_entry h n
 lowered-lower i h n l = rw (le-ltb i n (omega arith))
 
-pub lowered-higher : (i : ℕ) (h m n : ℕ) → i < n → n ≡ m + 1 → lowered i (h, n) ≡ (h, m)
+pub lowered-higher : (i : ℕ) (h m n : ℕ) → i < n → n ≡ m + 1 → lowered i (index_entry h n) ≡ index_entry h m
 lowered-higher i h m n l e =
     let d : n - 1 ≡ m = omega arith in
     rw (lt-ltb i n l, d)
 
 -- ---- index entries and keys as they are read
 
-pub lowered-then : (i : ℕ) (p : ℕ × ℕ) → i < p.1 → (p.0, p.1 - 1) ≡ lowered i p
-lowered-then i p l = rw (lt-ltb i p.1 l)
+pub lowered-then : (i : ℕ) (p : IndexEntry) → i < p.position → index_entry p.hash (p.position - 1) ≡ lowered i p
+lowered-then i p l = rw (lt-ltb i p.position l)
 
-pub lowered-else : (i : ℕ) (p : ℕ × ℕ) → p.1 ≤ i → p ≡ lowered i p
-lowered-else i p l = rw (le-ltb i p.1 l)
+pub lowered-else : (i : ℕ) (p : IndexEntry) → p.position ≤ i → p ≡ lowered i p
+lowered-else i p l = rw (le-ltb i p.position l)
 
 less_none : (m : ℕ) → m - 0 ≡ m
 less_none m = omega arith
 
 -- the two in one
-pub lowered-is : (i n : ℕ) (p : ℕ × ℕ) → n ≡ from_bool (ltb i p.1) → (p.0, p.1 - n) ≡ lowered i p
-lowered-is i n p e = elim (cases_lt i p.1) [
-  | inl lt ↦ rw (e, lt-ltb i p.1 lt) refl
-  | inr ge ↦ rw (e, le-ltb i p.1 ge) (ap (λ (m : ℕ). (p.0, m)) (less_none p.1))
+pub lowered-is : (i n : ℕ) (p : IndexEntry) → n ≡ from_bool (ltb i p.position) → index_entry p.hash (p.position - n) ≡ lowered i p
+lowered-is i n p e = elim (cases_lt i p.position) [
+  | inl lt ↦ rw (e, lt-ltb i p.position lt) refl
+  | inr ge ↦ rw (e, le-ltb i p.position ge) (ap (index_entry p.hash) (less_none p.position))
 ]
 
 -- ---- the index of keys that may repeat
@@ -158,13 +159,13 @@ unfolding hashed_from
 hashed_from-none n = refl
 
 -- one more key
-pub hashed_from-more : (from : ℕ) (ks : List (List ℕ)) (n : ℕ) (ps : List (ℕ × ℕ)) (h : ℕ) (x y : List ℕ)
+pub hashed_from-more : (from : ℕ) (ks : List (List ℕ)) (n : ℕ) (ps : List IndexEntry) (h : ℕ) (x y : List ℕ)
     → n < length ks
     → ps ≡ hashed_from from (take n ks) → x ≡ get_or ks n x → y ≡ x → h ≡ hash_of y
-    → ps ++ (h, from + n) ∷ [] ≡ hashed_from from (take (n + 1) ks)
+    → ps ++ index_entry h (from + n) ∷ [] ≡ hashed_from from (take (n + 1) ks)
 hashed_from-more from ks n ps h x y l before is same own =
     let long : n ≡ length (take n ks) = sym (length-take-le n ks (omega arith)) in
-    (λ i. before i ++ ((own ∙ ap hash_of (same ∙ is)) i, from + long i) ∷ [])
+    (λ i. before i ++ index_entry ((own ∙ ap hash_of (same ∙ is)) i) (from + long i) ∷ [])
     ∙ sym (hashed_from-push from (take n ks) (get_or ks n x)) ∙ ap (hashed_from from) (sym (take_more ks n x l))
 
 pub hashed_from-append : (from : ℕ) (ks ls : List (List ℕ)) → hashed_from from (ks ++ ls)
@@ -173,5 +174,5 @@ unfolding hashed_from
 hashed_from-append from [] ls = ap (λ (n : ℕ). hashed_from n ls) (sym (add-zero from))
 hashed_from-append from (k ∷ ks) ls =
     let e : from + 1 + length ks ≡ from + suc (length ks) = omega arith in
-    ap (λ ps. (hash_of k, from) ∷ ps) (hashed_from-append (from + 1) ks ls
+    ap (λ ps. index_entry (hash_of k) from ∷ ps) (hashed_from-append (from + 1) ks ls
     ∙ ap (λ (n : ℕ). hashed_from (from + 1) ks ++ hashed_from n ls) e)

@@ -9,26 +9,27 @@ use Rattle.std.proofs.lemmas.List.Sorted.{IsPermutation-append}
 use Rattle.std.proofs.Math.ListN.{length-map}
 use Rattle.jzon_base.specs.Private.Runs.{all_entries, AreSorted, IsIndexOf, IsIndexed}
 use Rattle.jzon_base.specs.Private.Hash.{hash_of}
-use Rattle.jzon_base.specs.Private.Keys.{entry_cmp, hashed_from}
+use Rattle.jzon_base.specs.Private.Keys.{entry_cmp, hashed_from, index_entry}
 use Rattle.jzon_base.proofs.KeyIndex.Indexes.{hashed_from-more, hashed_from-append, hashed_from-none}
 use Rattle.jzon_base.proofs.KeyIndex.Searches.{length-numbered}
 use Rattle.jzon_base.proofs.KeyIndex.Tables.{hashed_from-numbered}
+use Rattle.jzon_base.specs.declared.keys.entries.IndexEntry.{IndexEntry}
 
 -- one entry more is replaced
-pub hashed_from-set : (from : ℕ) (ks : List (List ℕ)) (n : ℕ) (ps : List (ℕ × ℕ)) (h : ℕ) (x y : List ℕ)
+pub hashed_from-set : (from : ℕ) (ks : List (List ℕ)) (n : ℕ) (ps : List IndexEntry) (h : ℕ) (x y : List ℕ)
     → n < length ks → n < length ps → take n ps ≡ hashed_from from (take n ks) → x ≡ get_or ks n x → y ≡ x
-    → h ≡ hash_of y → take (n + 1) (set ps n (h, from + n)) ≡ hashed_from from (take (n + 1) ks)
+    → h ≡ hash_of y → take (n + 1) (set ps n (index_entry h (from + n))) ≡ hashed_from from (take (n + 1) ks)
 hashed_from-set from ks n ps h x y l m before is same own =
-    take_more_set ps n (h, from + n) m ∙ hashed_from-more from ks n (take n ps) h x y l before is same own
+    take_more_set ps n (index_entry h (from + n)) m ∙ hashed_from-more from ks n (take n ps) h x y l before is same own
 
 -- the first runs have the entries of the first n keys, and the others have room for the rest
-pub record AreRefilled (ks : List (List ℕ)) (rs : List (List (ℕ × ℕ))) (n i : ℕ) : Type 0 where
+pub record AreRefilled (ks : List (List ℕ)) (rs : List (List IndexEntry)) (n i : ℕ) : Type 0 where
   pub within : n ≤ length ks
   pub whole : IsPermutation (hashed_from 0 (take n ks)) (flat_map (λ r. r) (take i rs))
   pub sorted : AreSorted ks (take i rs)
   pub room : length ks ≤ n + length (flat_map (λ r. r) (drop i rs))
 
-pub AreRefilled-none : (ks : List (List ℕ)) (rs : List (List (ℕ × ℕ))) → length ks ≤ length (flat_map (λ r. r) rs)
+pub AreRefilled-none : (ks : List (List ℕ)) (rs : List (List IndexEntry)) → length ks ≤ length (flat_map (λ r. r) rs)
     → AreRefilled ks rs 0 0
 AreRefilled-none ks rs room = record {
   within = omega arith;
@@ -37,7 +38,7 @@ AreRefilled-none ks rs room = record {
   room = omega (arith, room);
 }
 
-pub AreRefilled-more : (ks : List (List ℕ)) (rs : List (List (ℕ × ℕ))) (n m i : ℕ) (r s : List (ℕ × ℕ)) → i < length rs
+pub AreRefilled-more : (ks : List (List ℕ)) (rs : List (List IndexEntry)) (n m i : ℕ) (r s : List IndexEntry) → i < length rs
     → r ≡ get_or rs i r → AreRefilled ks rs n i → m ≡ min (n + length r) (length ks)
     → IsPermutation (hashed_from n (take (m - n) (drop n ks))) s → IsSorted (entry_cmp ks) s
     → AreRefilled ks (set rs i s) m (i + 1)
@@ -50,7 +51,7 @@ AreRefilled-more ks rs n m i r s l is before end refilled up =
     ∙ ap (hashed_from 0) (take-add n (m - n) ks) ∙ hashed_from-append 0 (take n ks) (take (m - n) (drop n ks))
     ∙ ap (λ (k : ℕ). hashed_from 0 (take n ks) ++ hashed_from k (take (m - n) (drop n ks))) (zero-add _ ∙ long) in
     let runs : flat_map (λ r. r) (take (i + 1) (set rs i s)) ≡ flat_map (λ r. r) (take i rs) ++ s =
-    ap (flat_map (λ r. r)) (take_more_set rs i s l) ∙ flat_map-append (λ (r : List (ℕ × ℕ)). r) (take i rs) (s ∷ [])
+    ap (flat_map (λ r. r)) (take_more_set rs i s l) ∙ flat_map-append (λ (r : List IndexEntry). r) (take i rs) (s ∷ [])
     ∙ ap (λ x. flat_map (λ r. r) (take i rs) ++ x) (append-nil s) in
     let rest : flat_map (λ r. r) (drop i rs) ≡ r ++ flat_map (λ r. r) (drop (i + 1) rs) =
     ap (flat_map (λ r. r)) (drop_more rs i r l ∙ ap (λ x. x ∷ drop (i + 1) rs) (sym is)) in
@@ -66,7 +67,7 @@ AreRefilled-more ks rs n m i r s l is before end refilled up =
       room = rw left (omega (arith, room, ap length rest, lengths, end));
     }
 
-pub AreRefilled-all : (ks : List (List ℕ)) (rs : List (List (ℕ × ℕ))) (n i : ℕ) → length rs ≤ i → AreRefilled ks rs n i
+pub AreRefilled-all : (ks : List (List ℕ)) (rs : List (List IndexEntry)) (n i : ℕ) → length rs ≤ i → AreRefilled ks rs n i
     → IsIndexOf (map hash_of ks) ks rs
 AreRefilled-all ks rs n i le before =
     let none : length (flat_map (λ r. r) (drop i rs)) ≡ 0 =
@@ -81,7 +82,7 @@ AreRefilled-all ks rs n i le before =
     }
 
 -- an index with entries has room for fewer keys
-pub room_for_fewer : (ks ls : List (List ℕ)) (rs : List (List (ℕ × ℕ))) → IsIndexed ks rs → length ls ≤ length ks
+pub room_for_fewer : (ks ls : List (List ℕ)) (rs : List (List IndexEntry)) → IsIndexed ks rs → length ls ≤ length ks
     → length (all_entries rs) ≢ 0 → length ls ≤ length (all_entries rs)
 room_for_fewer ks ls rs indexed fewer some = omega (
   arith,

@@ -6,24 +6,25 @@ use Rattle.jzon_base.proofs.Common.{IsPermutation, IsSorted, bytes_eq}
 use Rattle.std.proofs.Math.ListN.{length-map}
 use Rattle.jzon_base.specs.Private.Runs.{numbered, all_entries, AreHanded, IsIndexOf, IsIndexed, IsTable}
 use Rattle.jzon_base.specs.Private.Hash.{hash_of}
-use Rattle.jzon_base.specs.Private.Keys.{entry_cmp, hashed_from, lowered}
+use Rattle.jzon_base.specs.Private.Keys.{entry_cmp, hashed_from, index_entry, lowered}
 use Rattle.jzon_base.proofs.KeyIndex.FlatRuns.{flat_cut}
 use Rattle.jzon_base.proofs.KeyIndex.Searches.{IsIndexOf-remove}
 use Rattle.jzon_base.proofs.KeyIndex.Indexes.{is_other, IsDistinct-missing, IsDistinct-remove}
+use Rattle.jzon_base.specs.declared.keys.entries.IndexEntry.{IndexEntry}
 
 -- ---- hashes passed by the caller
 
 pub hashed_from-numbered : (n : ℕ) (ks : List (List ℕ)) → hashed_from n ks ≡ numbered n (map hash_of ks)
 unfolding hashed_from numbered
 hashed_from-numbered n [] = refl
-hashed_from-numbered n (k ∷ ks) = ap (λ ps. (hash_of k, n) ∷ ps) (hashed_from-numbered (n + 1) ks)
+hashed_from-numbered n (k ∷ ks) = ap (λ ps. index_entry (hash_of k) n ∷ ps) (hashed_from-numbered (n + 1) ks)
 
 pub IsIndexOf-none : IsIndexOf [] [] []
 unfolding numbered
 IsIndexOf-none = record { even = refl; whole = IsPermutation-refl []; sorted = All-nil (IsSorted (entry_cmp [])) }
 
 -- the entries of keys in one run
-pub IsIndexOf-one : (ks : List (List ℕ)) (r : List (ℕ × ℕ)) → IsPermutation (hashed_from 0 ks) r
+pub IsIndexOf-one : (ks : List (List ℕ)) (r : List IndexEntry) → IsPermutation (hashed_from 0 ks) r
     → IsSorted (entry_cmp ks) r → IsIndexOf (map hash_of ks) ks (r ∷ [])
 IsIndexOf-one ks r whole up = record {
   even = length-map ks hash_of;
@@ -33,7 +34,7 @@ IsIndexOf-one ks r whole up = record {
 }
 
 -- sorted entries of distinct keys
-pub IsTable-one : (ks : List (List ℕ)) (r : List (ℕ × ℕ)) → IsPermutation (hashed_from 0 ks) r
+pub IsTable-one : (ks : List (List ℕ)) (r : List IndexEntry) → IsPermutation (hashed_from 0 ks) r
     → IsSorted (entry_cmp ks) r → IsDistinct bytes_eq ks → IsTable ks (r ∷ [])
 IsTable-one ks r whole up distinct =
     record { indexed = record { index = λ _. IsIndexOf-one ks r whole up }; distinct = distinct }
@@ -58,13 +59,13 @@ module _ (hash : List ℕ → ℕ) where
   }
 
   -- one more key
-  pub IsIndexOf-key : (ks : List (List ℕ)) (k : List ℕ) (h : ℕ) (rs : List (List (ℕ × ℕ))) → h ≡ hash k
+  pub IsIndexOf-key : (ks : List (List ℕ)) (k : List ℕ) (h : ℕ) (rs : List (List IndexEntry)) → h ≡ hash k
       → IsIndexOf (map hash ks ++ h ∷ []) (ks ++ k ∷ []) rs → IsIndexOf (map hash (ks ++ k ∷ [])) (ks ++ k ∷ []) rs
   IsIndexOf-key ks k h rs own index =
       subst (λ hs. IsIndexOf hs (ks ++ k ∷ []) rs) ((λ i. map hash ks ++ own i ∷ []) ∙ sym (hashes-push ks k)) index
 
   -- one key fewer
-  pub IsIndexOf-cut : (ks : List (List ℕ)) (rs : List (List (ℕ × ℕ))) (i : ℕ) → i < length ks
+  pub IsIndexOf-cut : (ks : List (List ℕ)) (rs : List (List IndexEntry)) (i : ℕ) → i < length ks
       → IsIndexOf (map hash ks) ks rs
       → IsIndexOf (map hash (remove ks i)) (remove ks i) (map (λ r. map (lowered i) (filter (is_other i) r)) rs)
   IsIndexOf-cut ks rs i l index =
@@ -74,26 +75,26 @@ module _ (hash : List ℕ → ℕ) where
 -- ---- adding and removing keys
 
 -- runs without entries are the index of no keys
-pub IsIndexed-empty : (ks : List (List ℕ)) (rs : List (List (ℕ × ℕ))) → length (all_entries rs) ≡ 0 → IsIndexed ks rs
+pub IsIndexed-empty : (ks : List (List ℕ)) (rs : List (List IndexEntry)) → length (all_entries rs) ≡ 0 → IsIndexed ks rs
 IsIndexed-empty ks rs none = record { index = λ some. absurd (some none) }
 
-pub IsTable-none : (rs : List (List (ℕ × ℕ))) → length (all_entries rs) ≡ 0 → IsTable [] rs
+pub IsTable-none : (rs : List (List IndexEntry)) → length (all_entries rs) ≡ 0 → IsTable [] rs
 unfolding IsDistinct
 IsTable-none rs none = record { indexed = IsIndexed-empty [] rs none; distinct = tt }
 
-pub IsTable-push : (ks : List (List ℕ)) (k : List ℕ) (rs : List (List (ℕ × ℕ))) → IsDistinct bytes_eq ks
+pub IsTable-push : (ks : List (List ℕ)) (k : List ℕ) (rs : List (List IndexEntry)) → IsDistinct bytes_eq ks
     → position (λ x. bytes_eq x k) ks ≡ None → IsIndexed (ks ++ k ∷ []) rs → IsTable (ks ++ k ∷ []) rs
 IsTable-push ks k rs distinct missing indexed = record {
   indexed = indexed;
   distinct = IsDistinct-missing k ks distinct missing;
 }
 
-fewer_none : (i : ℕ) (ps : List (ℕ × ℕ)) → length ps ≡ 0 → length (map (lowered i) (filter (is_other i) ps)) ≡ 0
+fewer_none : (i : ℕ) (ps : List IndexEntry) → length ps ≡ 0 → length (map (lowered i) (filter (is_other i) ps)) ≡ 0
 fewer_none i [] none = refl
 fewer_none i (p ∷ ps) none = absurd (omega arith)
 
-pub IsTable-remove : (ks : List (List ℕ)) (rs : List (List (ℕ × ℕ))) (i : ℕ) → i < length ks → IsTable ks rs
-    → IsTable (remove ks i) (map (λ r. map (lowered i) (filter (λ p. not (eqb p.1 i)) r)) rs)
+pub IsTable-remove : (ks : List (List ℕ)) (rs : List (List IndexEntry)) (i : ℕ) → i < length ks → IsTable ks rs
+    → IsTable (remove ks i) (map (λ r. map (lowered i) (filter (λ p. not (eqb p.position i)) r)) rs)
 IsTable-remove ks rs i l table = record {
   indexed = record {
     index = λ some. IsIndexOf-cut hash_of ks rs i l (table.indexed.index (λ none.

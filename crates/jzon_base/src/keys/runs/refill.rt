@@ -8,17 +8,19 @@ ghost use Rattle.jzon_base.specs.Private.Keys.{entry_cmp, hashed_from};
 
 use super::{Run, Runs};
 use crate::key::Key;
-use crate::keys::entries;
+use crate::keys::entries::{self, IndexEntry};
 use crate::keys::hash::hash_of;
 
 /// Replaces entries by those of as many keys from a position on, in the order of the keys.
-fn put_hashed(entries: &mut [(u64, usize)], keys: &[Key], from: usize)
+fn put_hashed(entries: &mut [IndexEntry], keys: &[Key], from: usize)
     requires { from + length entries.old ≤ length keys.now }
     ensures { entries.new ≡ hashed_from from (take (length entries.old) (drop from keys.now)) }
 {
     let rest = &keys[from..];
     for at in 0..entries.len() {
-        entries[at] = (hash_of(rest[at].as_str()), from + at);
+        let hash = hash_of(rest[at].as_str());
+        let position = from + at;
+        entries[at] = IndexEntry { hash, position };
     }
 }
 

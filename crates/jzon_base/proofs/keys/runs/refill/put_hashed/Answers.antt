@@ -13,5 +13,5 @@ loop-at-preserved c =
     let from = c.args.from in
     let rest = take (length ks - from) (drop from ks) in
     let long = length-take-le (length ks - from) (drop from ks) (omega (arith, length-drop from ks)) in
-    hashed_from-set from rest c.loop-at.at c.loop-at.entries c.hash_of.result _ _ (omega (arith, long)) (omega arith)
-    c.loop-at.invariant c.index-rest-at.is c.as_str.ensures c.hash_of.ensures
+    hashed_from-set from rest c.loop-at.at c.loop-at.entries c.hash_of-hash.result _ _ (omega (arith, long)) (omega arith)
+    c.loop-at.invariant c.index-rest-at.is c.as_str.ensures c.hash_of-hash.ensures
