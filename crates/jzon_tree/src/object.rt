@@ -304,7 +304,16 @@ impl Drop for Object {
     }
 }
 
+/// Drops the elements of an array. Not inlined into the loop that calls it, so that an object
+/// without entries needs no call.
+#[inline(never)]
+#[cycle(json)]
+fn drop_items(items: Vec<JsonValue>) {
+    drop_values(items);
+}
+
 /// Drops values, the last one first.
+#[inline(always)]
 #[cycle(json)]
 fn drop_values(mut values: Vec<JsonValue>) {
     while let Some(value) = values.pop() {
@@ -313,7 +322,7 @@ fn drop_values(mut values: Vec<JsonValue>) {
                 {}
             JsonValue::String(text) => drop(text),
             JsonValue::Object(object) => drop(object),
-            JsonValue::Array(items) => drop_values(items),
+            JsonValue::Array(items) => drop_items(items),
         }
     }
     // The vector is empty now: this frees its memory alone.
