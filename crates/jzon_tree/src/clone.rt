@@ -2,7 +2,7 @@
 //! `clone` of lists.
 #![tactic(auto, using(crate::proofs::Values::Views::views))]
 
-ghost use Rattle.std.specs.Prelude.{◌≡◌, ◌+◌, ◌<◌, ◌++◌, ◌∷◌, [], map, true, false, IfOk, IsOkUnless, vec_len, vec_capacity};
+ghost use Rattle.std.specs.Prelude.{◌≡◌, map, IfOk, IsOkUnless};
 ghost use Rattle.jzon_tree.specs.View.{view, view_object};
 
 use crate::object::Object;
@@ -13,9 +13,6 @@ use std::alloc::{AllocError, Global};
 impl JsonValue {
     /// A copy of the value, with the parts of its numbers and the order of its keys. Fails with
     /// `OutOfMemory` only.
-    // Inlined into the loop over elements, so that an array in an array takes one stack frame.
-    #[inline(always)]
-    #[cycle(copy)]
     pub fn clone(&self, alloc: Global) -> Result<JsonValue>
         ensures copy { IfOk result (λ copy. view copy ≡ view self.now) }
         ensures memory { IsOkUnless result Error.OutOfMemory }
@@ -26,7 +23,7 @@ impl JsonValue {
             JsonValue::String(text) => Ok(JsonValue::String(text.clone()?)),
             JsonValue::Number(number) => Ok(JsonValue::Number(*number)),
             JsonValue::Boolean(truth) => Ok(JsonValue::Boolean(*truth)),
-            JsonValue::Object(object) => Ok(JsonValue::Object(object.clone(alloc)?)),
+            JsonValue::Object(object) => Ok(JsonValue::Object(object.copy(alloc)?)),
             JsonValue::Array(items) => Ok(JsonValue::Array(copy_items(alloc, items)?)),
         }
     }
@@ -34,12 +31,19 @@ impl JsonValue {
 
 impl Object {
     /// As `JsonValue::clone`.
-    // Not inlined into the loop over elements, which has a smaller stack frame without it.
-    #[inline(never)]
-    #[cycle(copy)]
     pub fn clone(&self, alloc: Global) -> Result<Object>
         ensures copy { IfOk result (λ copy. view_object copy ≡ view_object self.now) }
         ensures memory { IsOkUnless result Error.OutOfMemory }
+    {
+        Ok(self.copy(alloc)?)
+    }
+
+    /// As `clone`, with an error that takes no memory, so that less is cleared for each result. Not
+    /// inlined into the loop over elements, which has a smaller stack frame without it.
+    #[inline(never)]
+    #[cycle(copy)]
+    fn copy(&self, alloc: Global) -> std::result::Result<Object, AllocError>
+        ensures { IfOk result (λ copy. view_object copy ≡ view_object self.now) }
     {
         let values = copy_items(alloc, self.pairs.values())?;
         let pairs = self.pairs.with_values(alloc, values)?;
@@ -47,43 +51,32 @@ impl Object {
     }
 }
 
-/// Copies of the values, in order. Not inlined, neither into itself nor into `Object::clone`, so
-/// that its stack frame stays small.
+/// Copies of the values, in order, each made in place, because a value that is returned is moved.
+/// Not inlined, neither into itself nor into `Object::copy`, so that its stack frame stays small.
 #[inline(never)]
 #[cycle(copy)]
-fn copy_items(alloc: Global, items: &[JsonValue]) -> Result<Vec<JsonValue>>
-    ensures copy { IfOk result (λ copies. map view copies.items ≡ map view items.now) }
-    ensures memory { IsOkUnless result Error.OutOfMemory }
+fn copy_items(alloc: Global, items: &[JsonValue]) -> std::result::Result<Vec<JsonValue>, AllocError>
+    ensures { IfOk result (λ copies. map view copies.items ≡ map view items.now) }
 {
     let mut copies = Vec::with_capacity(alloc, items.len())?;
     for item in items {
-        if !push_inline(&mut copies, item) {
-            copies.push_reserved(item.clone(alloc)?);
+        match item {
+            JsonValue::Null => copies.push_reserved(JsonValue::Null),
+            JsonValue::Short(text) => copies.push_reserved(JsonValue::Short(text.copy_fields())),
+            JsonValue::Number(number) => {
+                copies.push_reserved(JsonValue::Number(number.copy_fields()))
+            }
+            JsonValue::Boolean(truth) => copies.push_reserved(JsonValue::Boolean(*truth)),
+            JsonValue::String(text) => copies.push_reserved(JsonValue::String(text.clone()?)),
+            JsonValue::Object(object) => {
+                copies.push_reserved(JsonValue::Object(object.copy(alloc)?))
+            }
+            JsonValue::Array(items) => {
+                copies.push_reserved(JsonValue::Array(copy_items(alloc, items)?))
+            }
         }
     }
     Ok(copies)
-}
-
-/// Adds a copy of the value if it is stored inline (null, a boolean, a number or a `Short`), and
-/// returns whether it is. There must be room for the copy, which is made in place, because a value
-/// that is returned is moved.
-#[inline(always)]
-fn push_inline(copies: &mut Vec<JsonValue>, value: &JsonValue) -> bool
-    requires { vec_len copies.old < vec_capacity copies.old }
-    ensures copy { result ≡ true → map view copies.new.items
-        ≡ map view copies.old.items ++ view value.now ∷ [] }
-    ensures other { result ≡ false → copies.new ≡ copies.old }
-    ensures room { vec_capacity copies.new ≡ vec_capacity copies.old }
-    ensures len { result ≡ true → vec_len copies.new ≡ vec_len copies.old + 1 }
-{
-    match value {
-        JsonValue::Null => copies.push_reserved(JsonValue::Null),
-        JsonValue::Short(text) => copies.push_reserved(JsonValue::Short(text.copy_fields())),
-        JsonValue::Number(number) => copies.push_reserved(JsonValue::Number(number.copy_fields())),
-        JsonValue::Boolean(truth) => copies.push_reserved(JsonValue::Boolean(*truth)),
-        _ => return false,
-    }
-    true
 }
 
 /// As `JsonValue::clone`, with the allocator of the value.
@@ -98,7 +91,7 @@ impl Clone for JsonValue {
             JsonValue::Number(number) => Ok(JsonValue::Number(*number)),
             JsonValue::Boolean(boolean) => Ok(JsonValue::Boolean(*boolean)),
             JsonValue::Object(object) => Ok(JsonValue::Object(Clone::clone(object)?)),
-            JsonValue::Array(items) => self.clone(*items.allocator()).map_err(|_| AllocError),
+            JsonValue::Array(items) => Ok(JsonValue::Array(copy_items(*items.allocator(), items)?)),
         }
     }
 }
@@ -108,6 +101,6 @@ impl Clone for Object {
     ghost is_clone = { λ o p. view_object p ≡ view_object o };
 
     fn clone(&self) -> std::result::Result<Object, AllocError> {
-        self.clone(self.pairs.allocator()).map_err(|_| AllocError)
+        self.copy(self.pairs.allocator())
     }
 }
