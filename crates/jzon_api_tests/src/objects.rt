@@ -4,7 +4,7 @@ use self::Call::*;
 use crate::common::{
     Tested, Tester, expect, expect_dump, expect_eq, expect_text, is_entry, number, parts,
 };
-use jzon::object::{Iter, IterMut, Keys, Object, Values};
+use jzon::object::{Iter, IterMut, Key, Keys, Object, Values};
 use jzon::{Error, JsonValue, Result, parse};
 use std::alloc::Global;
 
@@ -214,6 +214,64 @@ fn reads_and_writes_by_position(rt: HostRuntime) -> Tested {
     Ok(())
 }
 
+/// A position in `{"b":1,"a":2,"c":3}`, the entry that is removed there, and the text of the others.
+const REMOVED_AT: &[(usize, Option<(&str, u64)>, &str)] = &[
+    (0, Some(("b", 1)), "{\"a\":2,\"c\":3}"),
+    (1, Some(("a", 2)), "{\"b\":1,\"c\":3}"),
+    (2, Some(("c", 3)), "{\"b\":1,\"a\":2}"),
+    (3, None, "{\"b\":1,\"a\":2,\"c\":3}"),
+    (usize::MAX, None, "{\"b\":1,\"a\":2,\"c\":3}"),
+];
+
+#[test]
+fn removes_by_position(rt: HostRuntime) -> Tested {
+    for (index, removed, left) in REMOVED_AT {
+        let mut object = object_of(rt.alloc(), "{\"b\":1,\"a\":2,\"c\":3}")?;
+        let found = object.shift_remove_index(*index);
+        expect(&rt, left, is_removed(found, *removed));
+        expect_text(&rt, &object, left)?;
+    }
+    Ok(())
+}
+
+/// Whether it is an entry of this key and this number, or neither is there.
+fn is_removed(found: Option<(Key, JsonValue)>, want: Option<(&str, u64)>) -> bool {
+    match (found, want) {
+        (Some((key, value)), Some((name, number))) => {
+            key.as_str() == name && value.eq_u64(number)
+        }
+        (None, None) => true,
+        _ => false,
+    }
+}
+
+/// The object hasn't the key of this entry.
+fn is_gone(object: &Object, removed: Option<(Key, JsonValue)>) -> bool {
+    match removed {
+        Some((key, _value)) => object.get_index_of(key.as_str()).is_none(),
+        None => true,
+    }
+}
+
+/// Each key is at its position, also after the removal of another, and the removed one is gone.
+#[test]
+fn knows_positions(rt: HostRuntime) -> Tested {
+    let alloc = rt.alloc();
+    for count in COUNTS {
+        let mut object = filled(alloc, Object::new(alloc), *count)?;
+        let removed = object.shift_remove_index(object.len() / 2);
+        expect(&rt, "the removed key", is_gone(&object, removed));
+        for index in 0..object.len() {
+            let found = object
+                .get_index(index)
+                .map(|entry| object.get_index_of(entry.0));
+            expect(&rt, NEW, found == Some(Some(index)));
+        }
+        expect_eq(&rt, NEW, object.get_index_of(NEW), None);
+    }
+    Ok(())
+}
+
 #[test]
 fn collects_entries(rt: HostRuntime) -> Tested {
     let alloc = rt.alloc();
@@ -304,6 +362,7 @@ enum Call {
     AtMut,
     SetLast,
     Remove,
+    RemoveAt,
     Retain,
     Clear,
     GetMut,
@@ -313,7 +372,7 @@ enum Call {
 }
 
 const CALLS: &[Call] = &[
-    Insert, AtMut, SetLast, Remove, Retain, Clear, GetMut, IterMut, IntoIter, CloneAll,
+    Insert, AtMut, SetLast, Remove, RemoveAt, Retain, Clear, GetMut, IterMut, IntoIter, CloneAll,
 ];
 
 /// The first two entries and the last one are read, and the others dropped. How many were read.
@@ -328,7 +387,7 @@ impl Call {
     fn left(self, count: usize) -> usize {
         match self {
             Insert | AtMut => count.saturating_add(1),
-            Remove => count.saturating_sub(1),
+            Remove | RemoveAt => count.saturating_sub(1),
             Retain => count / 2,
             Clear => 0,
             IntoIter => count.min(3),
@@ -343,6 +402,7 @@ impl Call {
             AtMut => drop(object.at_mut(alloc, NEW)?.take()),
             SetLast => object.override_last(JsonValue::Null),
             Remove => drop(object.remove("00000000000000000000000000000000000000")),
+            RemoveAt => drop(object.shift_remove_index(0)),
             Retain => {
                 let mut is_kept = true;
                 object.retain(|_, _| {

@@ -290,12 +290,14 @@ impl Keys {
     }
 
     /// Removes the key at a position. The others keep their order. Takes no memory.
-    pub fn remove(&mut self, position: usize)
+    pub fn remove(&mut self, position: usize) -> Key
         requires { position < length self.old }
-        ensures { self.new ≡ remove self.old position }
+        ensures key { slice_get self.old position ≡ Some result }
+        ensures after { self.new ≡ remove self.old position }
     {
-        drop(self.keys.remove(position));
+        let key = self.keys.remove(position);
         self.index.cut(position);
+        key
     }
 
     /// Removes all keys. Their room, and that of the index's first run, is kept.

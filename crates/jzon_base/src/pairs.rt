@@ -347,10 +347,11 @@ impl<V> Pairs<V> {
         }
     }
 
-    /// As `Contents::remove_at`.
-    fn remove_at(&mut self, position: usize) -> V
+    /// Removes the entry at a position, and returns it. The others keep their order. Takes no
+    /// memory.
+    pub fn remove_at(&mut self, position: usize) -> (Key, V)
         requires { position < length self.old }
-        ensures value { slice_get (values_of self.old) position ≡ Some result }
+        ensures entry { slice_get self.old position ≡ Some result }
         ensures after { self.new ≡ remove self.old position }
     {
         match &mut self.entries {
@@ -367,7 +368,8 @@ impl<V> Pairs<V> {
         ensures after { self.new ≡ cut name.now self.old }
     {
         let position = self.position(name)?;
-        Some(self.remove_at(position))
+        let (_key, value) = self.remove_at(position);
+        Some(value)
     }
 
     /// Keeps the entries for which `keep` returns `true`, in their order. `keep` is called once for

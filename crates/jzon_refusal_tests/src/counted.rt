@@ -64,6 +64,7 @@ enum Freed {
     Clear,
     Retain,
     Remove,
+    RemoveAt,
     DropUnread,
     DropHalfRead,
     Read,
@@ -183,6 +184,7 @@ impl Freed {
             Freed::Clear => object.clear(),
             Freed::Retain => object.retain(|key, _value| key.starts_with("00000")),
             Freed::Remove => drop(object.remove("00001, a text of more than thirty bytes")),
+            Freed::RemoveAt => drop(object.shift_remove_index(0)),
             Freed::DropUnread => drop(object.into_iter()),
             Freed::Read => {
                 for (key, value) in object.into_iter().rev() {
@@ -346,6 +348,7 @@ const FREED: &[(Freed, &str)] = rows! {
     (Freed::Clear, "Object::clear")
     (Freed::Retain, "Object::retain")
     (Freed::Remove, "Object::remove")
+    (Freed::RemoveAt, "Object::shift_remove_index")
     (Freed::DropUnread, "into_iter that isn't read")
     (Freed::DropHalfRead, "into_iter that is read half")
     (Freed::Read, "into_iter from the back")

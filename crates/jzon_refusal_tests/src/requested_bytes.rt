@@ -469,7 +469,7 @@ fn roomy_object(alloc: Global) -> Result<Object> {
 /// What removes elements or entries that have far more room than they need.
 fn remove_each(array: &mut JsonValue, object: &mut Object) {
     drop(array.array_remove(1));
-    drop(object.remove("c"));
+    drop(object.shift_remove_index(2));
     object.retain(|key, _value| key != "d");
     for key in ["e", "a", "b"] {
         drop(array.pop());

@@ -4,6 +4,7 @@ ghost use Rattle.std.specs.List.{position, zip};
 ghost use Rattle.std.specs.Str.{bytes_eq};
 ghost use Rattle.std.specs.Coded.{coded_ℕ, coded_list, coded×};
 
+use crate::key::Key;
 use crate::keys::Keys;
 use std::alloc::{AllocError, Global};
 use std::marker::Model;
@@ -84,14 +85,13 @@ impl<V> Contents<V> {
         }
     }
 
-    /// Removes the entry at a position, and returns its value. The others keep their order. Takes
-    /// no memory.
-    pub fn remove_at(&mut self, position: usize) -> V
+    /// As `Pairs::remove_at`.
+    pub fn remove_at(&mut self, position: usize) -> (Key, V)
         requires { position < length self.old }
-        ensures value { slice_get (values_of self.old) position ≡ Some result }
+        ensures entry { slice_get self.old position ≡ Some result }
         ensures after { self.new ≡ remove self.old position }
     {
-        self.keys.remove(position);
-        self.values.remove(position)
+        let key = self.keys.remove(position);
+        (key, self.values.remove(position))
     }
 }

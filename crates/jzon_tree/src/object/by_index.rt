@@ -1,10 +1,12 @@
-//! The entries of an object by their positions, so that a loop can change each value in place.
+//! The entries of an object by their positions, which count from 0.
 
-ghost use Rattle.std.specs.Prelude.{◌≡◌, slice_get, option_map};
+ghost use Rattle.std.specs.Prelude.{◌≡◌, remove, slice_get, option_map};
+ghost use Rattle.std.specs.List.{position};
 ghost use Rattle.std.specs.Option.{option_copied_mut};
-ghost use Rattle.jzon_base.specs.PairList.{set_value};
+ghost use Rattle.std.specs.Str.{bytes_eq};
+ghost use Rattle.jzon_base.specs.PairList.{keys_of, set_value};
 
-use super::Object;
+use super::{Key, Object};
 use crate::value::JsonValue;
 
 impl Object {
@@ -44,6 +46,28 @@ impl Object {
     {
         if index < self.len() {
             Some(self.pairs.value_mut(index))
+        } else {
+            None
+        }
+    }
+
+    /// The position of the key. `None` if the key is missing.
+    pub fn get_index_of(&self, key: &str) -> Option<usize>
+        ensures { result ≡ position (λ k. bytes_eq k key.now) (keys_of (entries_of self.now)) }
+    {
+        self.pairs.position(key)
+    }
+
+    /// Removes the entry at a position, counted from 0, and returns its key and its value. `None`
+    /// past the end. The other entries keep their order. It allocates nothing.
+    ///
+    /// The entries after it move up, as in `remove`.
+    pub fn shift_remove_index(&mut self, index: usize) -> Option<(Key, JsonValue)>
+        ensures entry { result ≡ slice_get (entries_of self.old) index }
+        ensures after { entries_of self.new ≡ remove (entries_of self.old) index }
+    {
+        if index < self.len() {
+            Some(self.pairs.remove_at(index))
         } else {
             None
         }

@@ -1,7 +1,7 @@
 use Rattle.jzon_base.proofs.Common.{sym}
-use Rattle.jzon_base.proofs.Entries.PairPositions.{find_placed}
+use Rattle.jzon_base.proofs.Entries.PairPositions.{find_pair}
 use Rattle.jzon_base.proofs.pairs.Pairs.remove.Goals as goal
 
 pub returns-clause-value : goal.returns-clause-value
-returns-clause-value g c = sym (find_placed c.args.name.now c.args.self.now c.in_ok-position.position c.remove_at.result
-    (sym c.in_ok-position.ensures) c.remove_at.ensures.value)
+returns-clause-value g c = sym (find_pair c.args.name.now c.args.self.now c.in_ok-position.position
+    c.remove_at-key.result.0 c.remove_at-key.result.1 (sym c.in_ok-position.ensures) c.remove_at-key.ensures.entry)
