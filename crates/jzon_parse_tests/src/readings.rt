@@ -59,6 +59,7 @@ fn accepts(rt: HostRuntime) -> Result<(), Fail> {
 const FAULTS: &[(bool, u16, &str, &str)] = &[
     (false, 0, "[1]", "Exceeded depth limit"),
     (false, 0, "[x", "Exceeded depth limit"),
+    (false, 0, "[}", "Exceeded depth limit"),
     (false, 0, "{1", "Exceeded depth limit"),
     (false, 0, "[", "Unexpected end of JSON"),
     (false, 0, "x", "Unexpected character: x at (1:1)"),
