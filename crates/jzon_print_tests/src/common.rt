@@ -3,11 +3,9 @@
 
 use jzon::object::Object;
 use jzon::{JsonValue, Reading, Result, parse, parse_as};
-use jzon_test_support::Trouble;
 pub use jzon_test_support::{EACH_KIND, Tested, Tester, each_unread, number, parts};
 use std::alloc::Global;
 use std::fmt::Debug;
-use std::io;
 use std::process::Abort;
 
 /// It holds of this row.
@@ -74,15 +72,6 @@ pub fn expect_dump(rt: &impl Tester, value: &JsonValue, text: &str) -> Tested {
     Ok(())
 }
 
-/// The call failed with this error.
-pub fn expect_trouble(rt: &impl Tester, outcome: io::Result<()>, trouble: Trouble) -> Tested {
-    match outcome {
-        Ok(()) => expect(rt, "no error", false),
-        Err(error) => expect(rt, "the error", trouble.is_returned(rt.alloc(), &error)?),
-    }
-    Ok(())
-}
-
 /// An array of these numbers.
 pub fn numbers(alloc: Global, numbers: &[u64]) -> Result<JsonValue> {
     let mut items = Vec::new(alloc);
@@ -98,9 +87,4 @@ pub fn empty_containers(alloc: Global) -> Result<JsonValue> {
     object.insert(alloc, "a", JsonValue::Array(Vec::new(alloc)))?;
     object.insert(alloc, "b", JsonValue::Object(Object::new(alloc)))?;
     Ok(JsonValue::Object(object))
-}
-
-/// The bytes are those of this text.
-pub fn expect_bytes(rt: &impl Abort, bytes: &[u8], text: &str) {
-    expect_eq(rt, text, bytes, text.as_bytes());
 }

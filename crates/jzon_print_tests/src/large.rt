@@ -349,7 +349,8 @@ fn expect_spaces(rt: &impl Tester, spaces: u16) -> Tested {
     let i = joined(alloc, &[(" ", usize::from(spaces))])?;
     let text = format!(in alloc; "[\n{i}[\n{i}{i}[\n{i}{i}{i}1\n{i}{i}]\n{i}]\n]")?;
     expect(rt, "parse", is_value(parse(alloc, text.as_str()), &value));
-    expect_lines(rt, &value, spaces, text.as_str())
+    expect_lines(rt, &value, spaces, text.as_str());
+    Ok(())
 }
 
 /// Also with the most spaces.

@@ -2,8 +2,6 @@
 //!
 //! - `printing`: what the calls print of one value, and what generators consume
 //! - `display`: what `{}` shows
-//! - `layouts`, `generators`, `sorting`, `hooks`: a user's own ones and the library's
-//! - `writers`: writers that fail
 //! - `memory`: what printing allocates, also where that fails
 //! - `whole`, `large`: all calls that print, copy or hold a value, on each kind of value, and on
 //!   values that are long, deep or have many entries
@@ -14,20 +12,10 @@ mod common;
 #[cfg(test)]
 mod display;
 #[cfg(test)]
-mod generators;
-#[cfg(test)]
-mod hooks;
-#[cfg(test)]
 mod large;
-#[cfg(test)]
-mod layouts;
 #[cfg(test)]
 mod memory;
 #[cfg(test)]
 mod printing;
 #[cfg(test)]
-mod sorting;
-#[cfg(test)]
 mod whole;
-#[cfg(test)]
-mod writers;

@@ -3,8 +3,8 @@
 
 use crate::common::{Tested, expect};
 use jzon::codegen::{
-    Compact, DumpGenerator, Pretty, PrettyGenerator, PrettyWriterGenerator, WriterGenerator,
-    write_json,
+    Compact, DumpGenerator, Layout, Pretty, PrettyGenerator, PrettyWriterGenerator, TextGenerator,
+    WriterGenerator, write_json,
 };
 use jzon::{Error, JsonValue, Result, parse, stringify, stringify_pretty};
 use jzon_test_support::{DOCUMENT, DUMP, PRETTY, RUNS_MAX, Refusals, joined};
@@ -24,11 +24,16 @@ pub enum Writing {
     ObjectPretty,
     LayOut,
     PrettyLayOut,
+    InMemory,
+    PrettyInMemory,
     DumpGenerator,
     PrettyGenerator,
     Write,
     WritePretty,
     WriteLayout,
+    PrettyWriteLayout,
+    ToWriter,
+    PrettyToWriter,
     WriterGenerator,
     PrettyWriterGenerator,
     Stringify,
@@ -52,6 +57,16 @@ fn object_text(call: Writing, value: &JsonValue, alloc: Global, spaces: u16) -> 
     }
 }
 
+fn in_memory<L: Layout + Copy + Drop>(
+    value: &JsonValue,
+    alloc: Global,
+    layout: L,
+) -> Result<String> {
+    let mut generator = TextGenerator::in_memory(alloc, layout);
+    of_memory(write_json(&mut generator, value))?;
+    generator.consume()
+}
+
 fn dumped(value: &JsonValue, alloc: Global) -> Result<String> {
     let mut generator = DumpGenerator::new(alloc);
     of_memory(write_json(&mut generator, value))?;
@@ -72,7 +87,7 @@ fn text_of(bytes: Vec<u8>) -> Result<String> {
 }
 
 /// By a call that takes a writer.
-pub fn write<W: io::Write>(
+fn write<W: io::Write>(
     call: Writing,
     value: &JsonValue,
     writer: &mut W,
@@ -81,6 +96,11 @@ pub fn write<W: io::Write>(
     match call {
         Writing::Write => value.write(writer),
         Writing::WritePretty => value.write_pretty(writer, spaces),
+        Writing::WriteLayout => value.write_layout(writer, Compact),
+        Writing::ToWriter => write_json(&mut TextGenerator::to_writer(writer, Compact), value),
+        Writing::PrettyToWriter => {
+            write_json(&mut TextGenerator::to_writer(writer, Pretty(spaces)), value)
+        }
         Writing::WriterGenerator => write_json(&mut WriterGenerator::new(writer), value),
         Writing::PrettyWriterGenerator => {
             write_json(&mut PrettyWriterGenerator::new(writer, spaces), value)
@@ -113,6 +133,8 @@ impl Writing {
             Writing::ObjectDump | Writing::ObjectPretty => object_text(self, value, alloc, spaces),
             Writing::LayOut => value.lay_out(alloc, Compact),
             Writing::PrettyLayOut => value.lay_out(alloc, Pretty(spaces)),
+            Writing::InMemory => in_memory(value, alloc, Compact),
+            Writing::PrettyInMemory => in_memory(value, alloc, Pretty(spaces)),
             Writing::DumpGenerator => dumped(value, alloc),
             Writing::PrettyGenerator => prettified(value, alloc, spaces),
             Writing::Stringify => stringify(alloc, value.clone(alloc)?),
@@ -145,7 +167,13 @@ const WRITTEN: &[Row] = &[
     (Writing::PrettyGenerator, "generator 2", LISTED, ON_LINES, 5),
     (Writing::Write, "write", LISTED, LISTED, 1),
     (Writing::WritePretty, "write_pretty", LISTED, ON_LINES, 1),
-    (Writing::WriteLayout, "write_layout", LISTED, ON_LINES, 1),
+    (
+        Writing::PrettyWriteLayout,
+        "write_layout",
+        LISTED,
+        ON_LINES,
+        1,
+    ),
 ];
 
 /// The calls that give their text room at once, which a string of 2,000 bytes exceeds.

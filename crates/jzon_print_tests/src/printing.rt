@@ -1,8 +1,6 @@
 //! What is printed of one value: texts on one line and on lines, and what generators consume.
 
-use crate::common::{
-    Tested, Tester, empty_containers, expect, expect_bytes, expect_dump, expect_eq, numbers,
-};
+use crate::common::{Tested, Tester, empty_containers, expect, expect_dump, expect_eq, numbers};
 use crate::memory::prettified;
 use crate::whole::{expect_compact, expect_lines};
 use jzon::codegen::{Compact, Generator, Layout, Pretty, TextGenerator};
@@ -17,7 +15,8 @@ use std::process::Abort;
 fn prints_containers(rt: HostRuntime) -> Tested {
     let value = empty_containers(rt.alloc())?;
     let text = "{\n  \"a\": [],\n  \"b\": {}\n}";
-    expect_both(&rt, &value, "{\"a\":[],\"b\":{}}", 2, text)
+    expect_both(&rt, &value, "{\"a\":[],\"b\":{}}", 2, text);
+    Ok(())
 }
 
 /// Numbers, their compact text, a number of spaces, and their text on lines.
@@ -28,25 +27,20 @@ const NUMBERS: &[(&[u64], &str, u16, &str)] = &[
 ];
 
 /// The value prints these texts, the second with this number of spaces.
-fn expect_both(
-    rt: &impl Tester,
-    value: &JsonValue,
-    compact: &str,
-    spaces: u16,
-    lines: &str,
-) -> Tested {
-    expect_compact(rt, value, compact)?;
-    expect_lines(rt, value, spaces, lines)
+fn expect_both(rt: &impl Tester, value: &JsonValue, compact: &str, spaces: u16, lines: &str) {
+    expect_compact(rt, value, compact);
+    expect_lines(rt, value, spaces, lines);
 }
 
 #[test]
 fn prints_numbers(rt: HostRuntime) -> Tested {
     for (parts, compact, spaces, lines) in NUMBERS {
-        expect_both(&rt, &numbers(rt.alloc(), parts)?, compact, *spaces, lines)?;
+        expect_both(&rt, &numbers(rt.alloc(), parts)?, compact, *spaces, lines);
     }
-    expect_both(&rt, &JsonValue::Number(NAN), "null", 2, "null")?;
+    expect_both(&rt, &JsonValue::Number(NAN), "null", 2, "null");
     let inside = array![rt.alloc(); JsonValue::Number(NAN)];
-    expect_both(&rt, &inside, "[null]", 2, "[\n  null\n]")
+    expect_both(&rt, &inside, "[null]", 2, "[\n  null\n]");
+    Ok(())
 }
 
 #[test]
@@ -68,7 +62,7 @@ fn prettifies_an_object(rt: HostRuntime) -> Tested {
     object.insert(rt.alloc(), "b", numbers(rt.alloc(), &[2])?)?;
     let found = object.pretty(rt.alloc(), 1)?;
     let text = "{\n \"a\": null,\n \"b\": [\n  2\n ]\n}";
-    expect_bytes(&rt, found.as_bytes(), text);
+    expect_eq(&rt, "lines", found.as_str(), text);
     Ok(())
 }
 
@@ -114,7 +108,7 @@ const WITH_FOUR_SPACES: &[(&str, &str)] = rows! {
 #[test]
 fn prints_with_four_spaces(rt: HostRuntime) -> Tested {
     for (source, text) in WITH_FOUR_SPACES {
-        expect_lines(&rt, &parse(rt.alloc(), source)?, 4, text)?;
+        expect_lines(&rt, &parse(rt.alloc(), source)?, 4, text);
     }
     Ok(())
 }

@@ -6,9 +6,7 @@ use crate::common::{
     EACH_KIND, Tested, Tester, display, each_unread, each_value, expect, expect_dump, is_text,
     is_value, parts, read_strictly,
 };
-use crate::layouts::expect_laid_out;
 use crate::memory::Writing;
-use jzon::codegen::{Compact, Pretty};
 use jzon::lent::{write_at, write_at_index, write_present};
 use jzon::object::Object;
 use jzon::{IntoJson, JsonValue, Result, array, object, parse, stringify};
@@ -20,18 +18,26 @@ use std::collections::BTreeMap;
 const COMPACT: &[(Writing, &str)] = &[
     (Writing::Dump, "dump"),
     (Writing::Stringify, "stringify"),
+    (Writing::LayOut, "lay_out"),
     (Writing::Write, "write"),
+    (Writing::WriteLayout, "write_layout"),
     (Writing::DumpGenerator, "DumpGenerator"),
+    (Writing::InMemory, "in_memory"),
     (Writing::WriterGenerator, "WriterGenerator"),
+    (Writing::ToWriter, "to_writer"),
 ];
 
 /// Those that print in the pretty layout.
 const LINES: &[(Writing, &str)] = &[
     (Writing::Pretty, "pretty"),
     (Writing::StringifyPretty, "stringify_pretty"),
+    (Writing::PrettyLayOut, "lay_out"),
     (Writing::WritePretty, "write_pretty"),
+    (Writing::PrettyWriteLayout, "write_layout"),
     (Writing::PrettyGenerator, "PrettyGenerator"),
+    (Writing::PrettyInMemory, "in_memory"),
     (Writing::PrettyWriterGenerator, "PrettyWriterGenerator"),
+    (Writing::PrettyToWriter, "to_writer"),
 ];
 
 /// Each of these prints this text of the value.
@@ -49,15 +55,13 @@ fn expect_each(
 }
 
 /// What prints a value in the compact layout prints this text: the calls and the generators.
-pub fn expect_compact(rt: &impl Tester, value: &JsonValue, text: &str) -> Tested {
+pub fn expect_compact(rt: &impl Tester, value: &JsonValue, text: &str) {
     expect_each(rt, value, COMPACT, 0, text);
-    expect_laid_out(rt, rt.alloc(), value, Compact, text)
 }
 
 /// What prints a value in the pretty layout with this number of spaces prints this text.
-pub fn expect_lines(rt: &impl Tester, value: &JsonValue, spaces: u16, text: &str) -> Tested {
+pub fn expect_lines(rt: &impl Tester, value: &JsonValue, spaces: u16, text: &str) {
     expect_each(rt, value, LINES, spaces, text);
-    expect_laid_out(rt, rt.alloc(), value, Pretty(spaces), text)
 }
 
 /// What `{}` shows of a value of this compact text.
@@ -71,7 +75,8 @@ fn shown<'a>(value: &'a JsonValue, text: &'a str) -> &'a str {
 /// What prints a value in the pretty layout prints what `pretty` does.
 fn expect_pretty(rt: &impl Tester, value: &JsonValue, spaces: u16) -> Tested {
     let lines = value.pretty(rt.alloc(), spaces)?;
-    expect_lines(rt, value, spaces, lines.as_str())
+    expect_lines(rt, value, spaces, lines.as_str());
+    Ok(())
 }
 
 /// The value equals its copies, which print this text.
@@ -85,7 +90,7 @@ fn expect_copies(rt: &impl Tester, value: &JsonValue, text: &str) -> Tested {
 
 /// The value prints this text, and equals its copies.
 pub fn expect_printed(rt: &impl Tester, value: &JsonValue, text: &str) -> Tested {
-    expect_compact(rt, value, text)?;
+    expect_compact(rt, value, text);
     expect_pretty(rt, value, 0)?;
     expect_pretty(rt, value, 2)?;
     let is_shown = is_text(display(rt.alloc(), value), shown(value, text));

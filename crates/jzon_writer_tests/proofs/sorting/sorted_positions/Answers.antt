@@ -6,7 +6,7 @@ use Rattle.jzon.specs.SortedStyle.{ascend}
 use Rattle.jzon.specs.Writing.{IsOrder, text_at}
 use Rattle.jzon.proofs.Sorted.{insertion_more, IsOrder_permuted}
 use Rattle.jzon.proofs.KeyOrder.{in_key_order}
-use Rattle.jzon_print_tests.proofs.sorting.sorted_positions.Goals as goal
+use Rattle.jzon_writer_tests.proofs.sorting.sorted_positions.Goals as goal
 
 pub loop-position-preserved : goal.loop-position-preserved
 loop-position-preserved c =

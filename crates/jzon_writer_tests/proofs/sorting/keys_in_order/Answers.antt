@@ -1,7 +1,7 @@
 use Rattle.jzon.specs.Entries.{entries_of}
 use Rattle.jzon.specs.PairList.{keys_of}
 use Rattle.jzon.proofs.KeyOrder.{key_taken, keys_taken}
-use Rattle.jzon_print_tests.proofs.sorting.keys_in_order.Goals as goal
+use Rattle.jzon_writer_tests.proofs.sorting.keys_in_order.Goals as goal
 
 pub loop-key-preserved : goal.loop-key-preserved
 loop-key-preserved c =

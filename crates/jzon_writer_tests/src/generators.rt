@@ -5,9 +5,7 @@ ghost use Rattle.std.specs.Prelude.{◌∷◌, ◌≡◌, [], false, None, refl}
 ghost use Rattle.jzon.specs.StyleLaws.{IsStyle-only};
 ghost use Rattle.jzon.specs.Styles.{only};
 
-use crate::common::{
-    Tested, Tester, empty_containers, expect, expect_bytes, expect_eq, expect_trouble, numbers,
-};
+use crate::common::{Tested, Tester, expect, expect_bytes, expect_eq, expect_trouble};
 use jzon::codegen::{DumpGenerator, Generator, write_json, write_object};
 use jzon::number::{NAN, Number};
 use jzon::object::Object;
@@ -307,10 +305,10 @@ fn counts_a_long_string(rt: HostRuntime) -> Tested {
 /// Each comma and each bracket is a call of `write_char`.
 #[test]
 fn counts_containers(rt: HostRuntime) -> Tested {
-    let array = numbers(rt.alloc(), &[1, 20])?;
+    let array = parse(rt.alloc(), "[1,20]")?;
     let chars = expect_counted(&rt, rt.alloc(), &array, "[1,20]", 2)?;
     expect_eq(&rt, "write_char", chars, 3);
-    let object = empty_containers(rt.alloc())?;
+    let object = parse(rt.alloc(), "{\"a\":[],\"b\":{}}")?;
     expect_counted(&rt, rt.alloc(), &object, "{\"a\":[],\"b\":{}}", 6)?;
     Ok(())
 }

@@ -132,7 +132,12 @@ fn sorting<W>(alloc: Global, writer: W) -> SortedGenerator<W> {
 fn sorted_bytes(alloc: Global, value: &JsonValue) -> io::Result<Vec<u8>>
     ensures sorted { IfOk result (λ bytes. Writes sorted_style 0 (view value.now) bytes.items) }
 {
-    let mut generator = sorting(alloc, Vec::new(alloc));
+    let mut generator = SortedGenerator {
+        alloc,
+        writer: Vec::new(alloc),
+        dent: 0,
+        faults: 0,
+    };
     write_json(&mut generator, value)?;
     Ok(generator.writer)
 }

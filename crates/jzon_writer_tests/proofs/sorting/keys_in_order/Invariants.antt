@@ -2,7 +2,7 @@ use Rattle.std.proofs.Common.{◌≡◌, ◌++◌}
 use Rattle.jzon.specs.Entries.{entries_of}
 use Rattle.jzon.specs.PairList.{keys_of}
 use Rattle.jzon.proofs.KeyOrder.{texts_of}
-use Rattle.jzon_print_tests.proofs.sorting.keys_in_order.Given as goal
+use Rattle.jzon_writer_tests.proofs.sorting.keys_in_order.Given as goal
 
 -- the keys so far, and those that are left
 abbrev pub invariant-loop-key : goal.invariant-loop-key

@@ -150,7 +150,7 @@ impl Call {
 }
 
 /// Each call prints this text.
-pub fn expect_laid_out<L: Layout + Copy>(
+fn expect_laid_out<L: Layout + Copy>(
     rt: &impl Abort,
     alloc: Global,
     value: &JsonValue,

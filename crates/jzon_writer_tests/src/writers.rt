@@ -1,8 +1,9 @@
 //! Writers that take one byte a call, and fail at one call.
 
 use crate::common::{Tested, Tester, expect, expect_eq, expect_trouble};
-use crate::memory::{Writing, write};
-use jzon::codegen::{Compact, WriterGenerator, write_object};
+use jzon::codegen::{
+    Compact, Pretty, PrettyWriterGenerator, WriterGenerator, write_json, write_object,
+};
 use jzon::{JsonValue, Result, parse};
 use jzon_test_support::{
     DOCUMENT, DUMP, FAILURES, NO_FAILING_CALL, PRETTY, Refusals, SlowWriter, Trouble, joined,
@@ -91,12 +92,14 @@ impl How {
         let value = &sample.value;
         let spaces = sample.spaces;
         match self {
-            How::Compact => write(Writing::Write, value, writer, spaces),
-            How::Pretty => write(Writing::WritePretty, value, writer, spaces),
+            How::Compact => value.write(writer),
+            How::Pretty => value.write_pretty(writer, spaces),
             How::Layout => value.write_layout(writer, Compact),
-            How::PrettyLayout => write(Writing::WriteLayout, value, writer, spaces),
-            How::Generator => write(Writing::WriterGenerator, value, writer, spaces),
-            How::PrettyGenerator => write(Writing::PrettyWriterGenerator, value, writer, spaces),
+            How::PrettyLayout => value.write_layout(writer, Pretty(spaces)),
+            How::Generator => write_json(&mut WriterGenerator::new(writer), value),
+            How::PrettyGenerator => {
+                write_json(&mut PrettyWriterGenerator::new(writer, spaces), value)
+            }
             How::Object => match value.as_object() {
                 Some(object) => write_object(&mut WriterGenerator::new(writer), object),
                 None => Ok(()),

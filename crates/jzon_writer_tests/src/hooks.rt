@@ -3,7 +3,7 @@
 //! writer, of one that overrides `write`, and of a user's own that has the required hooks alone; and
 //! hooks with long arguments.
 
-use crate::common::{Tested, Tester, expect, expect_bytes, expect_eq, numbers};
+use crate::common::{Tested, Tester, expect, expect_bytes, expect_eq};
 use crate::generators::{Counting, TabGenerator};
 use jzon::codegen::{
     Compact, DumpGenerator, Generator, Layout, Pretty, PrettyGenerator, PrettyWriterGenerator,
@@ -328,7 +328,7 @@ fn write_json_over_a_failing_writer(rt: HostRuntime) -> Tested {
 /// The indents that were open when the error occurred stay open.
 #[test]
 fn leaves_the_indents_open(rt: HostRuntime) -> Tested {
-    let value = numbers(rt.alloc(), &[1])?;
+    let value = parse(rt.alloc(), "[1]")?;
     let trouble = Trouble::Fails(ErrorKind::BrokenPipe);
     let mut writer = SlowWriter::new(rt.alloc(), 4, trouble);
     let mut generator = PrettyWriterGenerator::new(&mut writer, 2);
