@@ -7,7 +7,9 @@
 //! change, so no clone is made before the last operation.
 
 ghost use Rattle.std.specs.Prelude.{◌≡◌, ◌⊎◌, OnOk, OnErr, IfOk, IfErr, None, Some, false, option_map};
+ghost use Rattle.std.specs.IoError.{error_kind};
 ghost use Rattle.jzon.specs.View.{view};
+ghost use Rattle.jzon_tools.specs.ErrorTexts.{cause_text, patch_error_kind, patch_error_text, shown_text};
 ghost use Rattle.jzon_tools.specs.Patch.{added_at, applied, entry_of, is_below, moved_at, operated, operated_by, tested_at, text_at, value_of, IsBackup, IsDone};
 ghost use Rattle.jzon_tools.specs.Patch as meaning;
 ghost use Rattle.jzon_tools.specs.Pointer.{removed_at, updated_at};
@@ -16,9 +18,10 @@ ghost use Rattle.jzon_tools.specs.declared.patch.Op.TheVariants as ops;
 ghost use Rattle.jzon_tools.specs.declared.pointer.PointerError.TheVariants as pointers;
 
 use crate::pointer::{self, PointerError};
-use jzon::JsonValue;
+use jzon::{JsonValue, io_error};
 use std::alloc::Global;
-use std::fmt;
+use std::io::ErrorKind;
+use std::{fmt, io};
 
 /// Why a patch wasn't applied.
 #[derive(Clone, Copy, Debug, PartialEq, Eq)]
@@ -52,6 +55,8 @@ pub enum Cause {
 }
 
 impl fmt::Display for PatchError {
+    ghost output = { λ e. Some (patch_error_text e) };
+
     fn fmt<W: fmt::Write>(&self, f: &mut fmt::Formatter<W>) -> fmt::Result {
         match self.operation {
             Some(number) => write!(f, "operation {number}: {}", self.cause),
@@ -61,6 +66,8 @@ impl fmt::Display for PatchError {
 }
 
 impl fmt::Display for Cause {
+    ghost output = { λ c. Some (cause_text c) };
+
     fn fmt<W: fmt::Write>(&self, f: &mut fmt::Formatter<W>) -> fmt::Result {
         match self {
             Cause::NotAnArray => f.write_str("the patch isn't an array"),
@@ -77,6 +84,20 @@ impl fmt::Display for Cause {
 }
 
 impl std::error::Error for PatchError {}
+
+/// So that `?` works in a `main` that returns an `io::Result`. The kind is `OutOfMemory`, or else
+/// `InvalidData`.
+impl From<PatchError> for io::Error {
+    ghost from_gives = { λ e i. error_kind i ≡ patch_error_kind e };
+
+    fn from(error: PatchError) -> io::Error {
+        let kind = match error.cause {
+            Cause::OutOfMemory => ErrorKind::OutOfMemory,
+            _ => ErrorKind::InvalidData,
+        };
+        io_error(kind, &error)
+    }
+}
 
 impl PatchError {
     /// The error with its pointer, which the patch has: `operation 2: /b/0: test failed`.
@@ -101,6 +122,8 @@ pub struct Shown<'a> {
 }
 
 impl fmt::Display for Shown<'_> {
+    ghost output = { λ s. Some (shown_text s) };
+
     fn fmt<W: fmt::Write>(&self, f: &mut fmt::Formatter<W>) -> fmt::Result {
         match self.error.operation {
             Some(number) if !self.pointer.is_empty() => {

@@ -2,7 +2,8 @@
 
 use crate::common::Tested;
 use jzon::JsonValue;
-use jzon_tools::canonical::{canonical_text, sort_keys};
+use jzon_tools::canonical::{canonical_text, of_text, sort_keys};
+use jzon_tools::patch;
 use jzon_tools::pointer::PointerError::Missing;
 use jzon_tools::pointer::{self, Reason};
 use jzon_tools::redact::redact;
@@ -16,6 +17,35 @@ fn canonical_order(rt: HostRuntime) -> Tested {
     sort_keys(alloc, &mut order)?;
     let dump = order.dump(alloc)?;
     assert_eq!(rt; dump.as_str(), r#"{"at":[-0,100],"sum":1.50,"to":"b"}"#);
+    Ok(())
+}
+
+#[test]
+fn signed_texts(rt: HostRuntime) -> Tested {
+    let alloc = rt.alloc();
+    let text = of_text(alloc, r#"{"b": 1.50, "a": [-0]}"#)?;
+    assert_eq!(rt; text.as_str(), r#"{"a":[0],"b":1.5}"#);
+    let repeated = of_text(alloc, r#"{"sum": 1, "sum": 2}"#);
+    assert_eq!(rt;
+        repeated,
+        Err(jzon::Error::DuplicateKey {
+            line: 1,
+            column: 12
+        })
+    );
+    Ok(())
+}
+
+#[test]
+fn patched_config(rt: HostRuntime) -> Tested {
+    let alloc = rt.alloc();
+    let mut config = jzon::parse(alloc, r#"{"port": 80, "tags": ["a"]}"#)?;
+    let operations = r#"[{"op": "test", "path": "/port", "value": 80.0},
+        {"op": "add", "path": "/tags/-", "value": "b"}]"#;
+    let patch = jzon::parse(alloc, operations)?;
+    patch::apply(alloc, &mut config, &patch)?;
+    let dump = config.dump(alloc)?;
+    assert_eq!(rt; dump.as_str(), r#"{"port":80,"tags":["a","b"]}"#);
     Ok(())
 }
 

@@ -6,6 +6,7 @@ use jzon_test_support::{RUNS_MAX, Refusals, rows};
 use jzon_tools::patch::{self, Cause, PatchError};
 use jzon_tools::pointer::PointerError::{Missing, NoSlash, WholeValue};
 use jzon_tools::pointer::Reason::{NoChildren, NoMember, NotAnIndex, OutOfRange};
+use std::io;
 use std::test::Fail;
 
 /// A value, a patch, and the value after it. First the examples of RFC 6902, appendix A.
@@ -209,6 +210,13 @@ fn shows_pointers(rt: HostRuntime) -> Tested {
         };
         let shown = format!(in rt.alloc(); "{}", error.shown(&patch))?;
         expect_eq(&rt, words, shown.as_str(), *words);
+        let is_memory = *cause == Cause::OutOfMemory;
+        let kind = io::Error::from(error).kind();
+        expect(
+            &rt,
+            words,
+            (kind == io::ErrorKind::OutOfMemory) == is_memory,
+        );
     }
     Ok(())
 }
@@ -219,4 +227,5 @@ const SHOWN: &[(Option<usize>, Cause, &str)] = rows! {
     (Some(0), Cause::Pointer("from", NoSlash), "operation 0: /x: `from`: The pointer begins with no /")
     (Some(7), Cause::NotAnObject, "operation 7: not an object")
     (None, Cause::NotAnArray, "the patch isn't an array")
+    (Some(1), Cause::OutOfMemory, "operation 1: /b/0: out of memory")
 };
