@@ -272,6 +272,50 @@ fn makes_many_pairs(rt: HostRuntime) -> Result<(), AllocError> {
     Ok(())
 }
 
+/// `count` distinct texts and the one of the number `last`. They differ only in the middle, so one bit
+/// is that of all.
+fn names_of_one_bit(alloc: Global, count: usize, last: usize) -> Result<Vec<String>, AllocError> {
+    let mut names = Vec::new(alloc);
+    for number in (0..count).chain([last]) {
+        let number = number.saturating_add(10);
+        names.push(format!(in alloc; "k{number}yz")?)?;
+    }
+    Ok(names)
+}
+
+/// Pairs that are made of distinct keys and of one of them again have its last value.
+fn expect_again(
+    rt: &impl Abort,
+    alloc: Global,
+    count: usize,
+    again: usize,
+) -> Result<(), AllocError> {
+    let keys = names_of_one_bit(alloc, count, again)?;
+    let pairs = Made::Entries.make(alloc, keys.as_slice())?;
+    expect_eq(rt, "the number of pairs", pairs.len(), count);
+    for (index, key) in keys.iter().take(count).enumerate() {
+        let value = if index == again { count } else { index };
+        let position = pairs.position(key.as_str());
+        expect_eq(rt, "a key", position, Some(index));
+        expect_eq(rt, "a value", pairs.get(key.as_str()).copied(), Some(value));
+    }
+    Ok(())
+}
+
+/// Numbers of keys between which a repeated one is found in another way.
+#[test]
+fn makes_pairs_of_one_bit(rt: HostRuntime) -> Result<(), AllocError> {
+    for count in [1, 2, 8, 9, 15, 16, 17, 31, 32, 33] {
+        let keys = names_of_one_bit(rt.alloc(), count, count)?;
+        for made in MADE {
+            expect_made(&rt, rt.alloc(), made, keys.as_slice())?;
+        }
+        expect_again(&rt, rt.alloc(), count, 0)?;
+        expect_again(&rt, rt.alloc(), count, count - 1)?;
+    }
+    Ok(())
+}
+
 /// A text of the hash 0. What comes after it keeps the hash: zero bytes, and `BLOCK` among them.
 const ZERO: &str = "77kepQFQ8Kl";
 

@@ -1,8 +1,9 @@
 //! Keys without an index are compared one by one. Up to `LINEAR_MAX` keys have none, unless it is
 //! left from when there were more.
-ghost use Rattle.std.specs.Prelude.{◌≡◌, ◌-◌, length, IsTrue, ◌↔◌, slice_index};
+ghost use Rattle.std.specs.Prelude.{◌≡◌, ◌<◌, ◌-◌, length, IsTrue, ◌↔◌, slice_index};
 ghost use Rattle.std.specs.List.{list_any, position, IsDistinct};
 ghost use Rattle.std.specs.Str.{bytes_eq};
+ghost use Rattle.jzon_base.specs.Private.Filter.{word_bit_of};
 
 use super::filter::Filter;
 use crate::key::Key;
@@ -10,9 +11,8 @@ use crate::key::Key;
 /// Up to how many keys are few: one filter is enough for them.
 pub const LINEAR_MAX: usize = 32;
 
-/// Up to how many keys are compared with each other to see whether one repeats. Of more keys, a
-/// filter finds those that may repeat.
-const COMPARED_MAX: usize = 8;
+/// Up to how many keys one word of bits finds those that may repeat. Of more keys, a filter does.
+const ONE_WORD_MAX: usize = 16;
 
 /// Whether texts have the same bytes. It is a function of its own, so that `are_equal` makes a call
 /// only if lengths and last bytes agree.
@@ -48,13 +48,15 @@ pub fn position(keys: &[Key], name: &str) -> Option<usize>
     keys.iter().position(|key| are_equal(key.as_str(), name))
 }
 
+/// Whether a key has this name. Not inlined, because few names share a bit.
+#[inline(never)]
 pub fn has_name(keys: &[Key], name: &str) -> bool
     ensures { result ≡ list_any (λ k. bytes_eq k name.now) keys.now }
 {
     keys.iter().any(|key| are_equal(key.as_str(), name))
 }
 
-/// `are_distinct` of more than `COMPARED_MAX` keys.
+/// `are_distinct` of more than `ONE_WORD_MAX` keys.
 #[inline(never)]
 fn are_distinct_by_filter(keys: &[Key]) -> bool
     ensures { IsTrue result ↔ IsDistinct bytes_eq keys.now }
@@ -68,18 +70,42 @@ fn are_distinct_by_filter(keys: &[Key]) -> bool
     true
 }
 
-/// Whether no key repeats.
+/// The number of a key's bit in a word, which is computed from its length, its first byte and its
+/// last.
+#[inline(always)]
+#[tactic(auto, unfolding(crate::specs::Private::Filter::word_bit_of))]
+fn bit_of(name: &str) -> usize
+    ensures bit { result ≡ word_bit_of name.now }
+    ensures within { result < 64 }
+{
+    let bytes = name.as_bytes();
+    let len = bytes.len();
+    if len == 0 {
+        return 0;
+    }
+    (len % 4 * 16 + usize::from(bytes[0]) + usize::from(bytes[len - 1]) * 2) % 64
+}
+
+/// Whether no key repeats. A key is compared with those before it only if one of them may have set
+/// its bit. One word has bits enough for few keys, and it stays in a register.
 #[inline(always)]
 pub fn are_distinct(keys: &[Key]) -> bool
     ensures { IsTrue result ↔ IsDistinct bytes_eq keys.now }
 {
-    if COMPARED_MAX < keys.len() {
+    if ONE_WORD_MAX < keys.len() {
         return are_distinct_by_filter(keys);
     }
-    for at in 1..keys.len() {
-        if has_name(&keys[..at], keys[at].as_str()) {
+    if keys.len() < 2 {
+        return true;
+    }
+    let mut word = 0u64;
+    for at in 0..keys.len() {
+        let name = keys[at].as_str();
+        let bit = bit_of(name);
+        if word >> bit & 1 == 1 && has_name(&keys[..at], name) {
             return false;
         }
+        word |= 1 << bit;
     }
     true
 }
