@@ -77,7 +77,12 @@ pub(crate) fn put_string_value<T: Target>(
     ensures in_place { length content.now ≤ MAX_LEN → IsOk result }
 {
     if content.len() <= MAX_LEN {
-        target.put(JsonValue::Short(Short::from_wide(content, wide)));
+        // A value made in one of two ways, and put after them, would be copied once more.
+        if wide.is_char_boundary(MAX_LEN) {
+            target.put(JsonValue::Short(Short::from_wide(content, wide)));
+        } else {
+            target.put(JsonValue::Short(Short::from_slice(content)));
+        }
     } else {
         target.put(JsonValue::String(String::from_str(alloc, content)?));
     }

@@ -1,5 +1,6 @@
 //! Text stored inline, in its owner: the `ArrayString` of the toolchain's crate `arrayvec`.
 ghost use Rattle.std.specs.Prelude.{◌≡◌, ◌≤◌, length, take};
+ghost use Rattle.std.specs.Str.{IsCharBoundary};
 
 use arrayvec::ArrayString;
 
@@ -14,18 +15,17 @@ pub(crate) fn text_in<const MAX: usize>(text: &str) -> ArrayString<MAX>
     inline
 }
 
-/// The text, with which `wide` begins. If `wide` can be cut after `MAX` bytes, these are copied,
-/// and the copy is cut to the text: a copy of a fixed number of bytes takes no call.
+/// The text, with which `wide` begins. `MAX` bytes of `wide` are copied, and the copy is cut to the
+/// text: a copy of a fixed number of bytes takes no call. The caller tests whether `wide` can be cut
+/// there, so that it makes either text where it stays.
 #[inline(always)]
 #[tactic(auto, using(crate::proofs::Strings::CopiedPrefixes::splits_front))]
 pub(crate) fn front_of<const MAX: usize>(text: &str, wide: &str) -> ArrayString<MAX>
     requires short { length text.now ≤ MAX }
     requires wide { take (length text.now) wide.now ≡ text.now }
+    requires cut { IsCharBoundary wide.now MAX }
     ensures { result.bytes ≡ text.now }
 {
-    if !wide.is_char_boundary(MAX) {
-        return text_in(text);
-    }
     let mut inline = ArrayString::new();
     inline.push_str(&wide[..MAX]);
     inline.truncate(text.len());

@@ -65,7 +65,7 @@ impl Key {
         ensures err { OnErr result (keys.new.items ≡ keys.old.items) }
     {
         keys.reserve(1)?;
-        if text.len() <= INLINE_MAX {
+        if text.len() <= INLINE_MAX && wide.is_char_boundary(INLINE_MAX) {
             keys.push_reserved(Key {
                 text: Text::Inline(inline::front_of(text, wide)),
             });

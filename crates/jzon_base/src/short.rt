@@ -3,7 +3,7 @@
 ghost use Rattle.std.specs.Prelude.{◌≡◌, ◌≤◌, List, ℕ, length, take, IfOk, IsOkUnless, IsUtf8, Some, string_bytes};
 ghost use Rattle.std.specs.Cmp.{partial_equiv_from_equiv};
 ghost use Rattle.std.specs.Cmp.Lexicographic.{nat_list_eq_equiv};
-ghost use Rattle.std.specs.Str.{bytes_eq};
+ghost use Rattle.std.specs.Str.{IsCharBoundary, bytes_eq};
 ghost use Rattle.jzon_base.specs.declared.error.Error.TheVariants.{OutOfMemory};
 
 use crate::error::Result;
@@ -39,13 +39,14 @@ impl Short {
         Short { text }
     }
 
-    /// A copy of the string, with which `wide` begins: from there it is copied faster than by
-    /// `from_slice` (`inline::front_of`).
+    /// A copy of the string, with which `wide` begins: from there, if `wide` can be cut after
+    /// `MAX_LEN` bytes, it is copied faster than by `from_slice` (`inline::front_of`).
     #[doc(hidden)]
     #[inline(always)]
     pub fn from_wide(slice: &str, wide: &str) -> Short
         requires short { length slice.now ≤ MAX_LEN }
         requires wide { take (length slice.now) wide.now ≡ slice.now }
+        requires cut { IsCharBoundary wide.now MAX_LEN }
         ensures { result ≡ slice.now }
     {
         let text = inline::front_of(slice, wide);

@@ -28,7 +28,7 @@ pub fn parse_strictly(alloc: Global, text: &str) -> Result<JsonValue> {
 }
 
 fn parse_at_places(alloc: Global, text: &str) -> Result<JsonValue> {
-    Ok(parse_located(alloc, text, &Reading::USUAL)?)
+    parse_located(alloc, text, &Reading::USUAL).map_err(|located| located.error)
 }
 
 fn take_string(value: &mut JsonValue, alloc: Global) -> Result<()> {
