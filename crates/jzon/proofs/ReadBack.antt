@@ -4,6 +4,7 @@
 -- `meaning_held` (MeaningHeld): what is read is a value that both laws apply to
 -- `number_read_back` (NumbersReadBack): the text of a number is read as an equal number
 -- `exact_numbers` (ExactNumbers): what an exact reading reads of a number is all that its digits spell
+-- `inexact_numbers` (InexactNumbers): what it rejects as inexact isn't
 -- Letters: Texts.antt, and
 --   s style   dent indentation   high how many more containers may be opened   b bytes that are written   m mantissa
 --   e exponent   ms, ns nodes or members
@@ -25,3 +26,4 @@ pub mod UnmarkedCells
 pub mod MeaningHeld
 pub mod StrictStyles
 pub mod ExactNumbers
+pub mod InexactNumbers

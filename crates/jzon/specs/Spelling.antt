@@ -1,7 +1,7 @@
 -- The text of a tree, and where it exceeds a limit.
 use Rattle.std.specs.Prelude.{◌≡◌, ℕ, suc, ◌+◌, List, [], ◌∷◌, ◌++◌, length, map, Bool, true, false, not, ◌&&◌, ◌==◌}
 use Rattle.std.specs.Prelude.{nat_le, if◌then◌else◌, Option, Some, None, codes, slice_get}
-use Rattle.jzon_base.specs.Digits.{digits_number, dropped, kept_fraction}
+use Rattle.jzon_base.specs.Digits.{dropped, kept_fraction}
 use Rattle.jzon_base.specs.LostDigits.{loses_last, leaves_range}
 use Rattle.jzon_base.specs.Tokens.{begin_array, begin_object, decimal_point, end_array, end_object, escape, minus_sign}
 use Rattle.jzon_base.specs.Tokens.{name_separator, plus_sign, quotation_mark, value_separator}
@@ -22,12 +22,12 @@ pub data Breach : Type 0 where
   digit : Breach
   -- a repeated key, with the number of characters from its opening quote to its closing quote
   duplicate : ℕ → Breach
-  -- a number that can't be had exactly
+  -- a digit with which the number has another value, as it is read, than its digits and exponent spell
   inexact : Breach
 
 -- A character of a text with its breach, if any. There is at most one: a depth breach is at the first character of a
--- value or of a key, a digit breach never at the first digit of a number, a `pair` breach at the last digit of an
--- escape, a duplicate breach at a closing quote.
+-- value or of a key, a `digit` or `inexact` breach never at the first digit of a number (a digit that has both has
+-- `digit`), a `pair` breach at the last digit of an escape, a duplicate breach at a closing quote.
 pub record Cell : Type 0 where
   pub char : ℕ
   pub mark : Option Breach
@@ -79,7 +79,7 @@ fraction_breach r whole fraction =
 
 -- the breach at the last of these digits of an exponent
 abbrev pub exponent_breach : Reading → List ℕ → List ℕ → Sign → List ℕ → Option Breach
-exponent_breach r whole fraction s ds = breach_if (r.exact && leaves_range whole fraction (signed_exponent s (digits_number ds))) inexact
+exponent_breach r whole fraction s ds = breach_if (r.exact && leaves_range whole fraction (signed_exponent s) ds) inexact
 
 -- digits after others (`prefix`, in reverse order), each with the breach of the digits up to it
 abbrev pub digits_cells : (List ℕ → Option Breach) → List ℕ → List ℕ → List Cell → List Cell

@@ -3,7 +3,7 @@
 //! contract, which a proof uses as CALLING.md, "How a law is called", says. A program needs none of
 //! them.
 
-ghost use Rattle.jzon.specs.Exact.{ExactNumbers};
+ghost use Rattle.jzon.specs.Exact.{ExactNumbers, InexactNumbers};
 ghost use Rattle.jzon.specs.Laws.{OneReading, OneText, DigitBreaches, OneFault, NumberText, Redump, StrictStyles, ReadsBack};
 
 /// Two trees that spell the same text are equal, so a text can be read in at most one way.
@@ -52,4 +52,10 @@ pub fn reads_back()
 /// exponent spell: no digit but 0 is dropped, and the exponent isn't clamped.
 pub fn exact_numbers()
     ensures { ExactNumbers }
+{}
+
+/// A number that an exact reading finds inexact isn't exact as it is read: another mantissa may have
+/// its value, but only with zeros less or more at the end.
+pub fn inexact_numbers()
+    ensures { InexactNumbers }
 {}

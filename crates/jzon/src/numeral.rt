@@ -8,10 +8,9 @@ ghost use Rattle.std.specs.Str.{IsCharBoundary};
 ghost use Rattle.jzon_base.specs.Decimal.{signed};
 ghost use Rattle.jzon_base.specs.Digits.{IsDigit, add_digit, digits_number, number_read};
 ghost use Rattle.jzon_base.specs.DigitLimits.{IsFirstTooMany};
-ghost use Rattle.jzon_base.specs.LostDigits.{mantissa_and_exponent, IsReadableNumber, IsFirstFault, IsFirstLost, IsFirstOutOfRange, StaysInRange};
+ghost use Rattle.jzon_base.specs.LostDigits.{HoldsOfNone, IsFirst, leaves_range, number_digits, mantissa_and_exponent, IsReadableNumber, IsFirstFault, IsFirstLost};
 ghost use Rattle.jzon.specs.declared.fault.Stop.TheVariants.{Inexact};
 ghost use Rattle.jzon.specs.Private.Stops.{stop_offset};
-ghost use Rattle.jzon_base.specs.declared.digits.DigitFault.{DigitFault};
 ghost use Rattle.jzon_base.specs.declared.digits.NumberFault.{NumberFault};
 ghost use Rattle.jzon_tree.specs.Value.{number};
 ghost use Rattle.jzon.specs.Reading.{Reading as Limits};
@@ -19,12 +18,12 @@ ghost use Rattle.jzon.specs.Grammar.{is_exponent_letter};
 ghost use Rattle.jzon.specs.Private.Classes.{after_letter};
 ghost use Rattle.jzon_base.specs.Tokens.{zero_digit};
 ghost use Rattle.jzon.specs.Private.Machine.{Frames, numeral, numeral_after_first, after_value, from, fault_here, Leads, Reports};
-ghost use Rattle.jzon.specs.Private.Numerals.{after_first, AreKept, LeadsTo, MissesDigit, HasTooMany, LosesDigit, number_stop};
+ghost use Rattle.jzon.specs.Private.Numerals.{after_first, AreKept, LeadsTo, MissesDigit, HasTooMany, LosesDigit, digit_offset, number_stop};
 
 use crate::bytes_at::{byte_at, has_byte};
 use crate::fault::{Result, Stop, fault_at};
 use crate::reading::Reading;
-use jzon_base::digits::{DigitFault, NumberFault, read_digits, read_scanned, scan};
+use jzon_base::digits::{NumberFault, read_digits, read_scanned, scan};
 use jzon_base::number::Number;
 
 /// The number whose first digit is at `start`, after a minus if it is `negative`, and the offset
@@ -94,11 +93,10 @@ fn read_rare(
     requires within { start + length whole.now + length fraction.now < 2 ^ 63 }
     requires before { length exponent.now ≤ end }
     ensures number { OkIff result
-        (IsReadableNumber reading.now.exact whole.now fraction.now (signed positive_exponent) exponent.now)
-        (mantissa_and_exponent whole.now fraction.now
-        (signed positive_exponent (digits_number exponent.now))) }
+        (IsReadableNumber reading.now.exact (number_digits whole.now fraction.now positive_exponent exponent.now))
+        (mantissa_and_exponent (number_digits whole.now fraction.now positive_exponent exponent.now)) }
     ensures stop { IfErr result (λ stop. (f : NumberFault)
-        × IsFirstFault reading.now.exact whole.now fraction.now (signed positive_exponent) exponent.now f
+        × IsFirstFault reading.now.exact (number_digits whole.now fraction.now positive_exponent exponent.now) f
         × (stop ≡ number_stop start (length whole.now) (end - length exponent.now) f)) }
 {
     let parts = read_digits(
@@ -123,11 +121,22 @@ fn stop_at(fault: NumberFault, start: usize, whole: usize, exponent: usize) -> S
     ensures { result ≡ number_stop start whole exponent fault }
 {
     match fault {
-        NumberFault::TooMany(DigitFault::Whole(i)) => Stop::Limit(start + i),
-        NumberFault::TooMany(DigitFault::Fraction(i)) => Stop::Limit(start + whole + 1 + i),
-        NumberFault::Lost(i) if i < whole => Stop::Inexact(start + i),
-        NumberFault::Lost(i) => Stop::Inexact(start + i + 1),
+        NumberFault::TooMany(i) => Stop::Limit(digit_offset(start, whole, i)),
+        NumberFault::Lost(i) => Stop::Inexact(digit_offset(start, whole, i)),
         NumberFault::OutOfRange(i) => Stop::Inexact(exponent + i),
+    }
+}
+
+/// The offset of the digit at this position among those before and after the point, of which `whole`
+/// are before it, from `start` on.
+fn digit_offset(start: usize, whole: usize, position: usize) -> usize
+    requires { digit_offset start whole position < 2 ^ 64 }
+    ensures { result ≡ digit_offset start whole position }
+{
+    if position < whole {
+        start + position
+    } else {
+        start + position + 1
     }
 }
 
@@ -163,18 +172,19 @@ fn spelling_at(source: &str, start: usize) -> Spelling<'_>
     ensures room { start + length result.whole.now + length result.fraction.now ≤ result.end }
     ensures exponent { length result.exponent.now ≤ result.end }
     ensures number { result.is_missing ≡ false → (r : Limits) (fs : Frames) (negative : Bool)
-        → IsReadableNumber r.exact result.whole.now result.fraction.now (signed result.positive_exponent) result.exponent.now
+        → IsReadableNumber r.exact
+        (number_digits result.whole.now result.fraction.now result.positive_exponent result.exponent.now)
         → after_first r fs negative source.now start ≡ from r source.now (after_value fs (number (number_read
         (not negative) result.whole.now result.fraction.now
         (signed result.positive_exponent (digits_number result.exponent.now))))) result.end }
     ensures missing { result.is_missing ≡ true
         → MissesDigit result.whole.now result.fraction.now source.now start result.end }
-    ensures too_many { (f : DigitFault) → IsFirstTooMany result.whole.now result.fraction.now f
-        → HasTooMany result.whole.now result.fraction.now f source.now start }
+    ensures too_many { (i : ℕ) → IsFirstTooMany result.whole.now result.fraction.now i
+        → HasTooMany result.whole.now result.fraction.now i source.now start }
     ensures loses { (i : ℕ) → IsFirstLost result.whole.now result.fraction.now i
         → LosesDigit result.whole.now result.fraction.now i source.now start }
-    ensures leaves { (i : ℕ) → IsFirstOutOfRange result.whole.now result.fraction.now
-        (signed result.positive_exponent) result.exponent.now i → (r : Limits) (fs : Frames) (negative : Bool)
+    ensures leaves { (i : ℕ) → IsFirst (leaves_range result.whole.now result.fraction.now
+        (signed result.positive_exponent)) result.exponent.now i → (r : Limits) (fs : Frames) (negative : Bool)
         → AreKept r result.whole.now result.fraction.now → r.exact ≡ true
         → Reports source.now (Inexact (result.end - length result.exponent.now + i))
         (after_first r fs negative source.now start) }
@@ -216,8 +226,8 @@ fn magnitude_at(source: &str, start: usize) -> Spelling<'_>
         (not negative) result.whole.now result.fraction.now (pos 0)))) }
     ensures missing { result.is_missing ≡ true
         → MissesDigit result.whole.now result.fraction.now source.now start result.end }
-    ensures too_many { (f : DigitFault) → IsFirstTooMany result.whole.now result.fraction.now f
-        → HasTooMany result.whole.now result.fraction.now f source.now start }
+    ensures too_many { (i : ℕ) → IsFirstTooMany result.whole.now result.fraction.now i
+        → HasTooMany result.whole.now result.fraction.now i source.now start }
     ensures loses { (i : ℕ) → IsFirstLost result.whole.now result.fraction.now i
         → LosesDigit result.whole.now result.fraction.now i source.now start }
 {
@@ -307,7 +317,7 @@ fn exponent_after(source: &str, start: usize) -> Exponent<'_>
     ensures written { result.number ≡ digits_number result.digits.now % 2 ^ 64 }
     ensures number { 0 < length result.digits.now →
         (r : Limits) (fs : Frames) (negative : Bool) (ws ds : List ℕ)
-        (l : ℕ) → (r.exact ≡ true → StaysInRange ws ds (signed result.is_positive) result.digits.now)
+        (l : ℕ) → (r.exact ≡ true → HoldsOfNone (leaves_range ws ds (signed result.is_positive)) result.digits.now)
         → from r source.now (numeral fs negative (after_letter ws ds l)) start
         ≡ from r source.now (after_value fs (number (number_read (not negative) ws ds
         (signed result.is_positive (digits_number result.digits.now))))) result.end }
@@ -317,7 +327,7 @@ fn exponent_after(source: &str, start: usize) -> Exponent<'_>
         → from r source.now (numeral fs negative (after_letter ws ds l)) start
         ≡ fault_here (chars (drop result.end source.now)) }
     ensures leaves { (i : ℕ) (r : Limits) (fs : Frames) (negative : Bool) (ws ds : List ℕ) (l : ℕ)
-        → r.exact ≡ true → IsFirstOutOfRange ws ds (signed result.is_positive) result.digits.now i
+        → r.exact ≡ true → IsFirst (leaves_range ws ds (signed result.is_positive)) result.digits.now i
         → Reports source.now (Inexact (result.end - length result.digits.now + i))
         (from r source.now (numeral fs negative (after_letter ws ds l)) start) }
     ensures room { length result.digits.now ≤ result.end }

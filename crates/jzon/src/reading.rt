@@ -66,7 +66,8 @@ impl Reading {
         })
     }
 
-    /// This reading, but a number that a `Number` doesn't have exactly is rejected.
+    /// This reading, but it rejects a number that would be read with another value than its digits
+    /// and exponent spell.
     pub fn with_exact_numbers(self) -> Reading
         ensures { result ≡ record self { exact = true } }
     {
@@ -76,7 +77,8 @@ impl Reading {
         }
     }
 
-    /// Whether a number that a `Number` doesn't have exactly is rejected.
+    /// Whether a number is rejected that would be read with another value than its digits and
+    /// exponent spell.
     pub fn exact_numbers(&self) -> bool
         ensures { result ≡ self.now.exact }
     {

@@ -51,11 +51,13 @@ kept_fraction whole fraction = kept_len (whole ++ fraction) - length whole
 abbrev pub clamp : ℤ → ℤ
 clamp z = int_max (negsuc 32767) (int_min (pos 32767) z)
 
--- The exponent: the written one, plus the number of digits dropped before the point, minus the number kept after it,
--- added exactly and clamped once.
+-- the exponent if none is written: how many digits are dropped before the point, minus how many after it are kept
+abbrev pub own_power : List ℕ → List ℕ → ℤ
+own_power whole fraction = pos (dropped whole fraction) -ℤ pos (kept_fraction whole fraction)
+
+-- the exponent: the written one is added exactly, and the sum is clamped once
 abbrev pub read_exponent : List ℕ → List ℕ → ℤ → ℤ
-read_exponent whole fraction written = clamp ((pos (dropped whole fraction) -ℤ pos (kept_fraction whole fraction)) +ℤ
-    written)
+read_exponent whole fraction written = clamp (own_power whole fraction +ℤ written)
 
 -- the number of a text, from its sign, its digits before and after the point, and its written exponent
 abbrev pub number_read : Bool → List ℕ → List ℕ → ℤ → Decimal

@@ -6,15 +6,14 @@
 //! exact reading fails at the first of them that isn't 0, and where the exponent is clamped although
 //! the number isn't 0.
 
-ghost use Rattle.std.specs.Prelude.{◌≡◌, ◌≢◌, ℕ, suc, pos, ◌+◌, ◌%◌, ◌<◌, ◌≤◌, ◌^◌, ◌-ℤ◌, ◌+ℤ◌, ◌++◌, Bool, length, take, min, IfErr, IfSome, None, OkIff, slice_index, true, false};
+ghost use Rattle.std.specs.Prelude.{◌≡◌, ◌≢◌, ℕ, pos, ◌+◌, ◌%◌, ◌<◌, ◌≤◌, ◌^◌, ◌-ℤ◌, ◌+ℤ◌, ◌++◌, Bool, List, length, take, min, nat_lt, IfErr, IfSome, None, OkIff, slice_index, true};
 ghost use Rattle.std.specs.Char.{is_ascii_digit};
 ghost use Rattle.std.specs.List.{fold, prefix_len, All};
 ghost use Rattle.jzon_base.specs.Decimal.{signed};
 ghost use Rattle.jzon_base.specs.Digits.{IsDigit, add_digit, digits_number, kept, dropped, kept_fraction, clamp};
-ghost use Rattle.jzon_base.specs.DigitLimits.{KeepsLongestPrefix};
-ghost use Rattle.jzon_base.specs.LostDigits.{mantissa_and_exponent, is_clamped, IsLost, LosesNone, LosesNoneBefore, IsWithinLimits, IsFirstLost, IsNeverClamped, IsFirstClamped, IsReadableNumber, IsFirstFault};
+ghost use Rattle.jzon_base.specs.DigitLimits.{IsFirstTooMany, KeepsLongestPrefix};
+ghost use Rattle.jzon_base.specs.LostDigits.{HoldsOfNone, IsFirst, loses_last, is_out_of_range, number_digits, mantissa_and_exponent, IsReadableNumber, IsFirstFault};
 ghost use Rattle.jzon_base.specs.Tokens.{zero_digit};
-ghost use Rattle.jzon_base.specs.declared.digits.NumberFault.TheVariants.{OutOfRange};
 
 mod eight_at_once;
 
@@ -36,26 +35,17 @@ const MAX_KEPT_FRACTION: usize = 32768;
 /// beyond an `i16` and is clamped, as it would be with any larger exponent.
 const MAX_WRITTEN: u64 = 65536;
 
-/// Why the digits of a number can't be read.
+/// Why the digits of a number can't be read, with the position of the first digit for which they
+/// can't: among the digits before and after the point or, of `OutOfRange`, those of the exponent.
 #[derive(Clone, Copy, Debug, PartialEq, Eq)]
 pub enum NumberFault {
-    /// This digit exceeds a limit.
-    TooMany(DigitFault),
-    /// The digit at this position, among those before and after the point, is the first that is
-    /// dropped and isn't 0.
+    /// The digit is the first beyond `MAX_DROPPED` dropped ones before the point, or beyond
+    /// `MAX_KEPT_FRACTION` kept ones after it.
+    TooMany(usize),
+    /// The digit is dropped and isn't 0.
     Lost(usize),
-    /// The digit at this position of the exponent is the first by which the exponent is clamped,
-    /// and the number isn't 0.
+    /// The exponent up to this digit is clamped, and the number isn't 0.
     OutOfRange(usize),
-}
-
-/// The digit that exceeds a limit, by its position among the digits before or after the point.
-#[derive(Clone, Copy, Debug, PartialEq, Eq)]
-pub enum DigitFault {
-    /// Before the point: the first digit that is dropped beyond `MAX_DROPPED`.
-    Whole(usize),
-    /// After the point: the first digit that is kept beyond `MAX_KEPT_FRACTION`.
-    Fraction(usize),
 }
 
 /// The mantissa and the exponent of a number, by its digits before the point, after it, and of its
@@ -76,9 +66,9 @@ pub fn read_scanned(
     requires exponent { All IsDigit exponent.now }
     requires written { written ≡ digits_number exponent.now % 2 ^ 64 }
     ensures readable { IfSome result
-        (λ p. IsReadableNumber true whole.now fraction.now (signed positive_exponent) exponent.now) }
-    ensures number { IfSome result (λ p. p ≡ mantissa_and_exponent whole.now fraction.now
-        (signed positive_exponent (digits_number exponent.now))) }
+        (λ p. IsReadableNumber true (number_digits whole.now fraction.now positive_exponent exponent.now)) }
+    ensures number { IfSome result (λ p. p
+        ≡ mantissa_and_exponent (number_digits whole.now fraction.now positive_exponent exponent.now)) }
 {
     if whole.len() + fraction.len() > ALWAYS_KEPT {
         return None;
@@ -115,33 +105,32 @@ pub fn read_digits(
     requires whole { All IsDigit whole.now }
     requires fraction { All IsDigit fraction.now }
     requires exponent { All IsDigit exponent.now }
-    ensures number { OkIff result (IsReadableNumber exact whole.now fraction.now (signed positive_exponent) exponent.now)
-        (mantissa_and_exponent whole.now fraction.now
-        (signed positive_exponent (digits_number exponent.now))) }
-    ensures fault { IfErr result (IsFirstFault exact whole.now fraction.now (signed positive_exponent) exponent.now) }
+    ensures number { OkIff result
+        (IsReadableNumber exact (number_digits whole.now fraction.now positive_exponent exponent.now))
+        (mantissa_and_exponent (number_digits whole.now fraction.now positive_exponent exponent.now)) }
+    ensures fault { IfErr result
+        (IsFirstFault exact (number_digits whole.now fraction.now positive_exponent exponent.now)) }
 {
     let (number, dropped, kept_fraction) = kept_prefix(whole, fraction);
+    let too_many = first_too_many(whole.len(), dropped, kept_fraction);
     if exact {
-        if let Some(position) = first_lost(whole, fraction, dropped, kept_fraction) {
-            return Err(NumberFault::Lost(position));
+        if let Some(lost) = first_lost(whole, fraction, dropped, kept_fraction) {
+            if too_many.is_none_or(|i| lost < i) {
+                return Err(NumberFault::Lost(lost));
+            }
         }
     }
-    // The first digit that is too many: before the point it follows the kept digits and
-    // `MAX_DROPPED` dropped ones, and after the point `MAX_KEPT_FRACTION` kept ones.
-    if dropped > MAX_DROPPED {
-        return Err(NumberFault::TooMany(DigitFault::Whole(whole.len() - dropped + MAX_DROPPED)));
+    if let Some(i) = too_many {
+        return Err(NumberFault::TooMany(i));
     }
-    if kept_fraction > MAX_KEPT_FRACTION {
-        return Err(NumberFault::TooMany(DigitFault::Fraction(MAX_KEPT_FRACTION)));
+    let clamped = clamped_exponent(dropped, kept_fraction, positive_exponent, exponent);
+    if exact && number != 0 {
+        let most = most_written(dropped, kept_fraction, positive_exponent);
+        if let Some(i) = first_above(most, exponent) {
+            return Err(NumberFault::OutOfRange(i));
+        }
     }
-    with_exponent(
-        number,
-        dropped,
-        kept_fraction,
-        positive_exponent,
-        exponent,
-        exact,
-    )
+    Ok((number, clamped))
 }
 
 /// How many digits `bytes` begin with, and the number that they spell when appended to those of
@@ -230,37 +219,21 @@ fn longest_prefix(before: u64, digits: &[u8], sure: usize) -> (u64, usize)
     (number, digits.len())
 }
 
-/// This mantissa, and the exponent: `dropped` minus `kept_fraction` plus the written exponent,
-/// clamped. If `exact` and the mantissa isn't 0, fails at the first written digit that clamps it.
-#[inline(always)]
-fn with_exponent(
-    mantissa: u64,
-    dropped: usize,
-    kept_fraction: usize,
-    positive_exponent: bool,
-    exponent: &[u8],
-    exact: bool,
-) -> Result<(u64, i16), NumberFault>
-    requires exponent { All IsDigit exponent.now }
-    requires dropped { dropped ≤ 32767 }
-    requires kept { kept_fraction ≤ 32768 }
-    ensures number { OkIff result
-        (exact ≡ true → mantissa ≢ 0
-        → IsNeverClamped (pos dropped -ℤ pos kept_fraction) (signed positive_exponent) exponent.now) (
-          mantissa,
-          clamp ((pos dropped -ℤ pos kept_fraction)
-              +ℤ signed positive_exponent (digits_number exponent.now)),
-        ) }
-    ensures fault { IfErr result (λ e. (exact ≡ true) × (mantissa ≢ 0) × ((i : ℕ) × (e ≡ OutOfRange i)
-        × IsFirstClamped (pos dropped -ℤ pos kept_fraction) (signed positive_exponent) exponent.now i)) }
+/// The position of the first digit that exceeds a limit, among those before and after the point: of
+/// `whole` digits before it `gone` are dropped, and of those after it `held` are kept.
+fn first_too_many(whole: usize, gone: usize, held: usize) -> Option<usize>
+    requires whole { whole < 2 ^ 63 }
+    requires gone { gone ≤ whole }
+    ensures some { IfSome result (λ i. (ws fs : List ℕ) → length ws ≡ whole → dropped ws fs ≡ gone
+        → kept_fraction ws fs ≡ held → IsFirstTooMany ws fs i) }
+    ensures none { result ≡ None → (gone ≤ 32767) × (held ≤ 32768) }
 {
-    let clamped = clamped_exponent(dropped, kept_fraction, positive_exponent, exponent);
-    if exponent.is_empty() || !exact || mantissa == 0 {
-        return Ok((mantissa, clamped));
-    }
-    match first_unfit(dropped, kept_fraction, positive_exponent, exponent) {
-        Some(position) => Err(NumberFault::OutOfRange(position)),
-        None => Ok((mantissa, clamped)),
+    if gone > MAX_DROPPED {
+        Some(whole - gone + MAX_DROPPED)
+    } else if held > MAX_KEPT_FRACTION {
+        Some(whole + MAX_KEPT_FRACTION)
+    } else {
+        None
     }
 }
 
@@ -287,34 +260,13 @@ fn clamped_exponent(dropped: usize, kept_fraction: usize, positive: bool, writte
     sum.clamp(i32::from(i16::MIN), i32::from(i16::MAX)) as i16
 }
 
-/// The position of the first digit of the written exponent by which the exponent of the number is
-/// clamped.
-#[cold]
-#[inline(never)]
-fn first_unfit(
-    dropped: usize,
-    kept_fraction: usize,
-    positive: bool,
-    written: &[u8],
-) -> Option<usize>
-    requires digits { All IsDigit written.now }
-    requires dropped { dropped ≤ 32767 }
-    requires kept { kept_fraction ≤ 32768 }
-    ensures some { IfSome result (IsFirstClamped (pos dropped -ℤ pos kept_fraction) (signed positive) written.now) }
-    ensures none { result ≡ None → IsNeverClamped (pos dropped -ℤ pos kept_fraction) (signed positive) written.now }
-{
-    first_above(most_written(dropped, kept_fraction, positive), written)
-}
-
 /// The greatest written exponent by which the exponent of the number isn't clamped.
 fn most_written(dropped: usize, kept_fraction: usize, positive: bool) -> u32
     requires dropped { dropped ≤ 32767 }
     requires kept { kept_fraction ≤ 32768 }
     ensures small { result ≤ 65535 }
-    ensures fit { (n : ℕ) → n ≤ result
-        → is_clamped ((pos dropped -ℤ pos kept_fraction) +ℤ signed positive n) ≡ false }
-    ensures unfit { (n : ℕ) → result < n
-        → is_clamped ((pos dropped -ℤ pos kept_fraction) +ℤ signed positive n) ≡ true }
+    ensures most { (m n : ℕ) → m ≢ 0 → is_out_of_range m
+        ((pos dropped -ℤ pos kept_fraction) +ℤ signed positive n) ≡ nat_lt result n }
 {
     if positive {
         (32767 - dropped + kept_fraction) as u32
@@ -323,15 +275,15 @@ fn most_written(dropped: usize, kept_fraction: usize, positive: bool) -> u32
     }
 }
 
-/// The position of the first of these digits with which they spell more than `limit`.
+/// The position of the first of these digits with which they spell more than `limit`. Cold, because
+/// only exact readings ask for it.
+#[cold]
+#[inline(never)]
 fn first_above(limit: u32, digits: &[u8]) -> Option<usize>
     requires limit { limit ≤ 65535 }
     requires digits { All IsDigit digits.now }
-    ensures some { IfSome result (λ i. (i < length digits.now)
-        × (limit < digits_number (take (suc i) digits.now))
-        × ((j : ℕ) → j < i → digits_number (take (suc j) digits.now) ≤ limit)) }
-    ensures none { result ≡ None → (i : ℕ) → i < length digits.now
-        → digits_number (take (suc i) digits.now) ≤ limit }
+    ensures some { IfSome result (IsFirst (λ ds. nat_lt limit (digits_number ds)) digits.now) }
+    ensures none { result ≡ None → HoldsOfNone (λ ds. nat_lt limit (digits_number ds)) digits.now }
 {
     let mut number = 0;
     for (i, digit) in digits.iter().enumerate() {
@@ -343,34 +295,15 @@ fn first_above(limit: u32, digits: &[u8]) -> Option<usize>
     None
 }
 
-/// The position of the first digit that is dropped and isn't 0, unless a digit up to it exceeds a
-/// limit. `gone` digits before the point are dropped, and `held` after it are kept.
+/// The position of the first digit that is dropped and isn't 0. `gone` digits before the point are
+/// dropped, and `held` after it are kept.
 #[cold]
 #[inline(never)]
 fn first_lost(whole: &[u8], fraction: &[u8], gone: usize, held: usize) -> Option<usize>
     requires dropped { gone ≡ dropped whole.now fraction.now }
     requires kept { held ≡ kept_fraction whole.now fraction.now }
-    ensures some { IfSome result (IsFirstLost whole.now fraction.now) }
-    ensures none { result ≡ None → (i : ℕ) → IsLost (whole.now ++ fraction.now) i
-        → IsWithinLimits whole.now fraction.now i → ⊥ }
-{
-    let position = first_dropped(whole, fraction, gone, held)?;
-    if held > MAX_KEPT_FRACTION {
-        return None;
-    }
-    if gone > MAX_DROPPED && position >= whole.len() - gone + MAX_DROPPED {
-        return None;
-    }
-    Some(position)
-}
-
-/// The position of the first digit that is dropped and isn't 0, whatever the limits are.
-fn first_dropped(whole: &[u8], fraction: &[u8], gone: usize, held: usize) -> Option<usize>
-    requires dropped { gone ≡ dropped whole.now fraction.now }
-    requires kept { held ≡ kept_fraction whole.now fraction.now }
-    ensures some { IfSome result (λ i. IsLost (whole.now ++ fraction.now) i
-        × LosesNoneBefore (whole.now ++ fraction.now) i) }
-    ensures none { result ≡ None → LosesNone (whole.now ++ fraction.now) }
+    ensures some { IfSome result (IsFirst loses_last (whole.now ++ fraction.now)) }
+    ensures none { result ≡ None → HoldsOfNone loses_last (whole.now ++ fraction.now) }
 {
     match first_nonzero(whole, whole.len() - gone) {
         Some(i) => Some(i),

@@ -43,8 +43,9 @@ pub enum Error {
         line: usize,
         column: usize,
     },
-    /// An exact reading found a number that a `Number` can't have exactly. Line and column are those
-    /// of the first character with which it can't. Printed as `Number is not exact at (L:K)`.
+    /// An exact reading found a number that would be read with another value than its digits and
+    /// exponent spell. Line and column are those of the first character with which it would. Printed
+    /// as `Number is not exact at (L:K)`.
     InexactNumber {
         line: usize,
         column: usize,

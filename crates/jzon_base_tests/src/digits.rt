@@ -6,7 +6,7 @@ ghost use Rattle.jzon_base.specs.Digits.{IsDigit, digits_number};
 
 use crate::common::expect_eq;
 use jzon_base::digits::NumberFault::{Lost, OutOfRange, TooMany};
-use jzon_base::digits::{DigitFault, NumberFault, read_digits, read_scanned, scan};
+use jzon_base::digits::{NumberFault, read_digits, read_scanned, scan};
 use jzon_test_support::{Long, rows, spelled};
 use std::test::Fail;
 
@@ -124,12 +124,12 @@ const EXACT_LIMITS: &[(Long, Long, Outcome)] = rows! {
     (("1", &[("0", 32786, "")]), ("", &[]), Ok((10000000000000000000, 32767)))
     (("1", &[("0", 32786, "")]), ("1", &[]), Err(Lost(32787)))
     (("1", &[("0", 32785, "10")]), ("", &[]), Err(Lost(32786)))
-    (("1", &[("0", 32786, "1")]), ("", &[]), Err(TooMany(DigitFault::Whole(32787))))
-    (("1", &[("0", 32787, "1")]), ("", &[]), Err(TooMany(DigitFault::Whole(32787))))
-    (("1", &[("0", 32787, "")]), ("1", &[]), Err(TooMany(DigitFault::Whole(32787))))
+    (("1", &[("0", 32786, "1")]), ("", &[]), Err(TooMany(32787)))
+    (("1", &[("0", 32787, "1")]), ("", &[]), Err(TooMany(32787)))
+    (("1", &[("0", 32787, "")]), ("1", &[]), Err(TooMany(32787)))
     (("0", &[]), ("", &[("0", 32748, "18446744073709551615")]), Ok((u64::MAX, -32768)))
     (("0", &[]), ("", &[("0", 32748, "184467440737095516151")]), Err(Lost(32769)))
-    (("0", &[]), ("", &[("0", 32749, "184467440737095516151")]), Err(TooMany(DigitFault::Fraction(32768))))
+    (("0", &[]), ("", &[("0", 32749, "184467440737095516151")]), Err(TooMany(32769)))
 };
 
 #[test]

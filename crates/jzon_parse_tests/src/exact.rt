@@ -154,6 +154,9 @@ const INEXACT: &[(&str, usize)] = rows! {
     ("1e327670", 8)
     ("1e99999", 7)
     ("1e123456789012345678901234567890", 8)
+    // The number of the exponent's digits is 5 modulo 2^64.
+    ("1e18446744073709551621", 8)
+    ("-1e-18446744073709551621", 10)
     ("10e32768", 8)
     ("1.5e32769", 9)
     ("0.00001e32773", 13)
@@ -323,9 +326,10 @@ fn is_exact_at_each_depth(rt: HostRuntime) -> Result<(), Fail> {
     Ok(())
 }
 
-/// A caller's proof may cite the law.
+/// A caller's proof may cite the laws.
 fn exact_value(alloc: Global, text: &str) -> jzon::Result<JsonValue> {
     laws::exact_numbers();
+    laws::inexact_numbers();
     jzon::parse_as(alloc, text, &Reading::STRICT.with_exact_numbers())
 }
 

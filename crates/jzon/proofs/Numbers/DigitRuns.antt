@@ -1,6 +1,6 @@
 -- The automaton on a whole run of digits: it reads the run, or stops at the first digit that has a breach.
 use Rattle.jzon_base.proofs.Common.{◌≡◌, ◌∙◌, ℕ, zero, suc, List, [], ◌∷◌, ◌++◌, length, drop, Option, Bool}
-use Rattle.jzon_base.proofs.Common.{refl, IsTrue, is_ascii_digit}
+use Rattle.jzon_base.proofs.Common.{refl, IsTrue, is_ascii_digit, ap, arith, take, ◌+◌}
 use Rattle.jzon.specs.Reading.{Reading}
 use Rattle.jzon.specs.Grammar.{Sign, unsigned, AreDigits, IsDigits}
 use Rattle.jzon.specs.Spelling.{Breach, onto, whole_breach, fraction_breach, exponent_breach}
@@ -8,7 +8,7 @@ use Rattle.jzon.specs.Fault.{limit}
 use Rattle.jzon.specs.Private.Classes.{NumberState, whole, pointed, fraction, after_letter, signed_exponent, exponent}
 use Rattle.jzon.specs.Private.Machine.{Frames, State, numeral, go, move, refused, outcome}
 use Rattle.jzon.proofs.Texts.ClassesOfCharacters.{digits-class}
-use Rattle.jzon.proofs.Numbers.NumberLimits.{AreUnmarked, IsFirstMarked}
+use Rattle.jzon.proofs.Numbers.NumberLimits.{AreUnmarked, IsFirstMarked, next_clear, up_to_next, length-onto}
 
 -- ---- digits in a state that collects them
 
@@ -19,18 +19,29 @@ Collects r at breach =
     ≡ go (breach (onto (c ∷ ds) [])) (at (c ∷ ds))
 
 module _ (r : Reading) (at : List ℕ → State) (breach : List ℕ → Option Breach) (collects : Collects r at breach) where
-  collect_all : (ds es rest : List ℕ) → AreDigits es → AreUnmarked breach ds es
+  collect_all : (ds es rest : List ℕ) → AreDigits es → AreUnmarked breach (onto ds es)
       → outcome r (es ++ rest) (at ds) ≡ outcome r rest (at (onto es ds))
   collect_all ds [] rest ok h = refl
   collect_all ds (e ∷ es) rest ok h =
-      rw (collects ds e (suc (length (es ++ rest))) ok.0, h.0) (collect_all (e ∷ ds) es rest ok.1 h.1)
+      rw (
+        collects ds e (suc (length (es ++ rest))) ok.0,
+        next_clear breach ds e es _ h (omega (arith, length-onto ds (e ∷ es))),
+      ) (collect_all (e ∷ ds) es rest ok.1 h)
 
-  collect_up_to : (b : Breach) (ds es rest : List ℕ) (i : ℕ) → AreDigits es → IsFirstMarked breach b ds es i
-      → outcome r (es ++ rest) (at ds) ≡ refused (limit b) (drop i es ++ rest)
-  collect_up_to b ds [] rest i ok h = absurd h
-  collect_up_to b ds (e ∷ es) rest zero ok h = rw (collects ds e (suc (length (es ++ rest))) ok.0, h) refl
-  collect_up_to b ds (e ∷ es) rest (suc i) ok h =
-      rw (collects ds e (suc (length (es ++ rest))) ok.0, h.0) (collect_up_to b (e ∷ ds) es rest i ok.1 h.1)
+  collect_up_to : (b : Breach) (ds es rest : List ℕ) (p i : ℕ) → AreDigits es → IsFirstMarked breach b (onto ds es) p
+      → length ds + i ≡ p → outcome r (es ++ rest) (at ds) ≡ refused (limit b) (drop i es ++ rest)
+  collect_up_to b ds [] rest p i ok h at_p = absurd (omega (arith, h.0, at_p, length-onto ds []))
+  collect_up_to b ds (e ∷ es) rest p zero ok h at_p =
+      let here : length ds ≡ p = omega (arith, at_p) in
+      rw (
+        collects ds e (suc (length (es ++ rest))) ok.0,
+        ap breach (up_to_next ds e es) ∙ ap (λ n. breach (take (suc n) (onto ds (e ∷ es)))) here ∙ h.1,
+      ) refl
+  collect_up_to b ds (e ∷ es) rest p (suc i) ok h at_p =
+      rw (
+        collects ds e (suc (length (es ++ rest))) ok.0,
+        next_clear breach ds e es p h.2 (omega (arith, at_p)),
+      ) (collect_up_to b (e ∷ ds) es rest p i ok.1 h (omega (arith, at_p)))
 
 module _ (r : Reading) (fs : Frames) (negative : Bool) where
   abbrev N : NumberState → State
@@ -38,12 +49,12 @@ module _ (r : Reading) (fs : Frames) (negative : Bool) where
 
   -- ---- whole digits
 
-  pub read_whole : (ds es rest : List ℕ) → AreDigits es → AreUnmarked (whole_breach r) ds es
+  pub read_whole : (ds es rest : List ℕ) → AreDigits es → AreUnmarked (whole_breach r) (onto ds es)
       → outcome r (es ++ rest) (N (whole ds)) ≡ outcome r rest (N (whole (onto es ds)))
   read_whole = collect_all r (λ ds. N (whole ds)) (whole_breach r) (λ xs c left h. rw (digits-class r.strict c h) refl)
 
-  pub refuse_whole : (b : Breach) (ds es rest : List ℕ) (i : ℕ) → AreDigits es
-      → IsFirstMarked (whole_breach r) b ds es i
+  pub refuse_whole : (b : Breach) (ds es rest : List ℕ) (p i : ℕ) → AreDigits es
+      → IsFirstMarked (whole_breach r) b (onto ds es) p → length ds + i ≡ p
       → outcome r (es ++ rest) (N (whole ds)) ≡ refused (limit b) (drop i es ++ rest)
   refuse_whole =
       collect_up_to r (λ ds. N (whole ds)) (whole_breach r) (λ xs c left h. rw (digits-class r.strict c h) refl)
@@ -55,7 +66,7 @@ module _ (r : Reading) (fs : Frames) (negative : Bool) where
       → outcome r (c ∷ rest) (N (pointed ws)) ≡ outcome r (c ∷ rest) (N (fraction ws []))
   at_point ws c rest h = rw (digits-class r.strict c h) refl
 
-  pub read_fraction : (ws es rest : List ℕ) → IsDigits es → AreUnmarked (fraction_breach r ws) [] es
+  pub read_fraction : (ws es rest : List ℕ) → IsDigits es → AreUnmarked (fraction_breach r ws) es
       → outcome r (es ++ rest) (N (pointed ws)) ≡ outcome r rest (N (fraction ws (onto es [])))
   read_fraction ws [] rest ok h = absurd ok
   read_fraction ws (e ∷ es) rest ok h =
@@ -63,12 +74,12 @@ module _ (r : Reading) (fs : Frames) (negative : Bool) where
       (λ xs c left h. rw (digits-class r.strict c h) refl) [] (e ∷ es) rest ok h
 
   pub refuse_fraction : (b : Breach) (ws es rest : List ℕ) (i : ℕ) → IsDigits es
-      → IsFirstMarked (fraction_breach r ws) b [] es i
+      → IsFirstMarked (fraction_breach r ws) b es i
       → outcome r (es ++ rest) (N (pointed ws)) ≡ refused (limit b) (drop i es ++ rest)
   refuse_fraction b ws [] rest i ok h = absurd ok
   refuse_fraction b ws (e ∷ es) rest i ok h =
       at_point ws e (es ++ rest) ok.0 ∙ collect_up_to r (λ ds. N (fraction ws ds)) (fraction_breach r ws)
-      (λ xs c left h. rw (digits-class r.strict c h) refl) b [] (e ∷ es) rest i ok h
+      (λ xs c left h. rw (digits-class r.strict c h) refl) b [] (e ∷ es) rest i i ok h (omega arith)
 
   -- ---- exponent digits
 
@@ -85,42 +96,42 @@ module _ (r : Reading) (fs : Frames) (negative : Bool) where
   at_sign ws gs l s c rest h = rw (digits-class r.strict c h) refl
 
   read_exponent : (ws gs : List ℕ) (l : ℕ) (s : Sign) (es rest : List ℕ) → AreDigits es
-      → AreUnmarked (exponent_breach r ws gs s) [] es
+      → AreUnmarked (exponent_breach r ws gs s) es
       → outcome r (es ++ rest) (E ws gs l s []) ≡ outcome r rest (E ws gs l s (onto es []))
   read_exponent ws gs l s es rest ok h =
       collect_all r (λ ds. E ws gs l s ds) (exponent_breach r ws gs s)
       (λ xs c left h. rw (digits-class r.strict c h) refl) [] es rest ok h
 
   refuse_exponent : (b : Breach) (ws gs : List ℕ) (l : ℕ) (s : Sign) (es rest : List ℕ) (i : ℕ) → AreDigits es
-      → IsFirstMarked (exponent_breach r ws gs s) b [] es i
+      → IsFirstMarked (exponent_breach r ws gs s) b es i
       → outcome r (es ++ rest) (E ws gs l s []) ≡ refused (limit b) (drop i es ++ rest)
   refuse_exponent b ws gs l s es rest i ok h =
       collect_up_to r (λ ds. E ws gs l s ds) (exponent_breach r ws gs s)
-      (λ xs c left h. rw (digits-class r.strict c h) refl) b [] es rest i ok h
+      (λ xs c left h. rw (digits-class r.strict c h) refl) b [] es rest i i ok h (omega arith)
 
   pub read_unsigned_exponent : (ws gs : List ℕ) (l : ℕ) (es rest : List ℕ) → IsDigits es
-      → AreUnmarked (exponent_breach r ws gs unsigned) [] es
+      → AreUnmarked (exponent_breach r ws gs unsigned) es
       → outcome r (es ++ rest) (N (after_letter ws gs l)) ≡ outcome r rest (E ws gs l unsigned (onto es []))
   read_unsigned_exponent ws gs l [] rest ok h = absurd ok
   read_unsigned_exponent ws gs l (e ∷ es) rest ok h =
       at_letter ws gs l e (es ++ rest) ok.0 ∙ read_exponent ws gs l unsigned (e ∷ es) rest ok h
 
   pub refuse_unsigned_exponent : (b : Breach) (ws gs : List ℕ) (l : ℕ) (es rest : List ℕ) (i : ℕ) → IsDigits es
-      → IsFirstMarked (exponent_breach r ws gs unsigned) b [] es i
+      → IsFirstMarked (exponent_breach r ws gs unsigned) b es i
       → outcome r (es ++ rest) (N (after_letter ws gs l)) ≡ refused (limit b) (drop i es ++ rest)
   refuse_unsigned_exponent b ws gs l [] rest i ok h = absurd ok
   refuse_unsigned_exponent b ws gs l (e ∷ es) rest i ok h =
       at_letter ws gs l e (es ++ rest) ok.0 ∙ refuse_exponent b ws gs l unsigned (e ∷ es) rest i ok h
 
   pub read_signed_exponent : (ws gs : List ℕ) (l : ℕ) (s : Sign) (es rest : List ℕ) → IsDigits es
-      → AreUnmarked (exponent_breach r ws gs s) [] es
+      → AreUnmarked (exponent_breach r ws gs s) es
       → outcome r (es ++ rest) (N (signed_exponent ws gs l s)) ≡ outcome r rest (E ws gs l s (onto es []))
   read_signed_exponent ws gs l s [] rest ok h = absurd ok
   read_signed_exponent ws gs l s (e ∷ es) rest ok h =
       at_sign ws gs l s e (es ++ rest) ok.0 ∙ read_exponent ws gs l s (e ∷ es) rest ok h
 
   pub refuse_signed_exponent : (b : Breach) (ws gs : List ℕ) (l : ℕ) (s : Sign) (es rest : List ℕ) (i : ℕ)
-      → IsDigits es → IsFirstMarked (exponent_breach r ws gs s) b [] es i
+      → IsDigits es → IsFirstMarked (exponent_breach r ws gs s) b es i
       → outcome r (es ++ rest) (N (signed_exponent ws gs l s)) ≡ refused (limit b) (drop i es ++ rest)
   refuse_signed_exponent b ws gs l s [] rest i ok h = absurd ok
   refuse_signed_exponent b ws gs l s (e ∷ es) rest i ok h =

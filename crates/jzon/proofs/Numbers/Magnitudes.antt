@@ -7,9 +7,8 @@ use Rattle.jzon_base.proofs.Common.{All, take_while, ne_eqb, nat_tests, All-nil,
 use Rattle.jzon_base.proofs.Common.{IsCharBoundary-after_ascii}
 use Rattle.jzon_base.specs.Digits.{IsDigit, kept_len, dropped, kept_fraction, number_read}
 use Rattle.jzon_base.specs.DigitLimits.{IsFirstTooMany}
-use Rattle.jzon_base.specs.declared.digits.DigitFault.{DigitFault}
-use Rattle.jzon_base.specs.declared.digits.DigitFault.TheVariants.{Whole, Fraction}
-use Rattle.jzon_base.specs.LostDigits.{IsLost, IsFirstLost}
+use Rattle.jzon_base.specs.LostDigits.{IsFirstLost}
+use Rattle.jzon_base.proofs.Numbers.LostDigits.{lost_so}
 use Rattle.jzon_base.proofs.Numbers.DigitPrefixes.{kept_len_is_longest, if-lt, if-ge}
 use Rattle.jzon_tree.specs.Value as value
 use Rattle.jzon.specs.Reading.{Reading, usual}
@@ -20,7 +19,7 @@ use Rattle.jzon.specs.Private.Classes.{pointed, after_letter}
 use Rattle.jzon.specs.declared.fault.Stop.TheVariants.{Limit, Inexact}
 use Rattle.jzon.specs.Private.Machine.{Frames, numeral, after_value, Outcome, refused, outcome, from, Reports}
 use Rattle.jzon.specs.Private.Numerals.{after_first, LeadsTo, MissesDigit, HasTooMany}
-use Rattle.jzon.specs.Private.Numerals.{LosesDigit, lost_offset}
+use Rattle.jzon.specs.Private.Numerals.{LosesDigit, digit_offset}
 use Rattle.jzon.proofs.Texts.FaultOffsets.{reports_limit}
 use Rattle.jzon.proofs.Numbers.NumberLimits.{LosesNoneUpTo, up_to, fraction_marked, fraction_lost}
 use Rattle.jzon.proofs.Numbers.DigitRuns.{refuse_fraction}
@@ -101,7 +100,7 @@ pub record ReadsMagnitude (bs : List ℕ) (i : ℕ) (ws ds : List ℕ) (e : ℕ)
   pub to_end : missing ≡ false → (e < length bs → is_exponent_letter (get_or bs e 0) ≡ false)
       → LeadsTo ws ds bs i e (λ fs negative. after_value fs (value.number (number_read (not negative) ws ds (pos 0))))
   pub stops : missing ≡ true → MissesDigit ws ds bs i e
-  pub refuses : (f : DigitFault) → IsFirstTooMany ws ds f → HasTooMany ws ds f bs i
+  pub refuses : (n : ℕ) → IsFirstTooMany ws ds n → HasTooMany ws ds n bs i
   pub loses : (n : ℕ) → IsFirstLost ws ds n → LosesDigit ws ds n bs i
 
 -- this error reports a fault at the digit at position n of these digits, which are at offset i
@@ -117,19 +116,25 @@ letter_is_ascii c h = grind (arith, nat_tests)
 keeps_no_fraction : (ws : List ℕ) → kept_fraction ws [] ≡ 0
 keeps_no_fraction ws = omega (arith, (kept_len_is_longest (ws ++ [])).within, length-append ws [])
 
+offset_before : (start whole i : ℕ) → i < whole → digit_offset start whole i ≡ start + i
+offset_before start whole i h = if-lt i whole (start + i) (start + i + 1) h
+
+offset_after : (start whole i : ℕ) → whole ≤ i → digit_offset start whole i ≡ start + i + 1
+offset_after start whole i h = if-ge i whole (start + i) (start + i + 1) h
+
 whole_too_many : (bs : List ℕ) (i : ℕ) (ws ds : List ℕ) → IsUtf8 bs → WholeStands bs i ws → 32768 ≤ dropped ws ds
-    → HasTooMany ws ds (Whole (kept_len (ws ++ ds) + 32767)) bs i
+    → HasTooMany ws ds (kept_len (ws ++ ds) + 32767) bs i
 unfolding from
-whole_too_many bs i ws ds u w many r fs negative none =
-    reports_digit bs i (kept_len (ws ++ ds) + 32767) ws (chars (drop (i + length ws) bs)) _ u
-    (w.from (kept_len (ws ++ ds) + 32767) (omega arith) (omega arith)) ((w.reads r).refuses fs negative ds many none)
+whole_too_many bs i ws ds u w many r fs negative none = rw (offset_before i (length ws) (kept_len (ws ++ ds) + 32767) (omega arith))
+    (reports_digit bs i (kept_len (ws ++ ds) + 32767) ws (chars (drop (i + length ws) bs)) _ u
+    (w.from (kept_len (ws ++ ds) + 32767) (omega arith) (omega arith)) ((w.reads r).refuses fs negative ds many none))
 
 -- a lost digit before the point
 lost_before_limit : (ws ds : List ℕ) (n : ℕ) → IsFirstLost ws ds n → n < length ws → n < kept_len (ws ++ ds) + 32767
 lost_before_limit ws ds n h within =
     elim (cases_lt (dropped ws ds) 32768) [
       | inl few ↦ omega arith
-      | inr many ↦ h.2 (Whole (kept_len (ws ++ ds) + 32767)) (many, refl)
+      | inr many ↦ h.1 (kept_len (ws ++ ds) + 32767) (inl (many, refl))
     ]
 
 kept_above_zero : (bs : List ℕ) (i : ℕ) (ws ds : List ℕ) (n : ℕ) → WholeStands bs i ws → IsFirstLost ws ds n
@@ -137,19 +142,15 @@ kept_above_zero : (bs : List ℕ) (i : ℕ) (ws ds : List ℕ) (n : ℕ) → Who
 kept_above_zero bs i ws ds n w h within =
     elim (cases_lt 1 (length ws)) [
       | inl more ↦ more
-      | inr one ↦ absurd (not_first ws n one within (w.all 0 0 (omega arith)) h.0)
+      | inr one ↦ absurd (not_first ws n one within (w.all 0 0 (omega arith)) (lost_so (ws ++ ds) n h.0.0 h.0.1).0)
     ]
   where
     not_first : (ws : List ℕ) (n : ℕ) → length ws ≤ 1 → n < length ws → IsDigit (get_or ws 0 0)
-        → IsLost (ws ++ ds) n → ⊥
-    not_first [] n le within bounds lost = absurd (omega arith)
-    not_first (d ∷ rest) zero le within bounds lost = absurd (omega (
-      arith,
-      lost.0,
-      first_kept d (rest ++ ds)
-          (omega (arith, bounds)),
-    ))
-    not_first (d ∷ rest) (suc n) le within bounds lost = absurd (omega arith)
+        → kept_len (ws ++ ds) ≤ n → ⊥
+    not_first [] n le within bounds past = absurd (omega arith)
+    not_first (d ∷ rest) zero le within bounds past =
+        absurd (omega (arith, past, first_kept d (rest ++ ds) (omega (arith, bounds))))
+    not_first (d ∷ rest) (suc n) le within bounds past = absurd (omega arith)
 
 whole_lost_at : (bs : List ℕ) (i : ℕ) (ws ds : List ℕ) (n : ℕ) → IsUtf8 bs → WholeStands bs i ws
     → IsFirstLost ws ds n → n < length ws → (r : Reading) (fs : Frames) (negative : Bool) → r.exact ≡ true
@@ -158,13 +159,7 @@ unfolding from
 whole_lost_at bs i ws ds n u w h within r fs negative exact =
     reports_lost bs i n ws (chars (drop (i + length ws) bs)) _ u
     (w.from n (omega arith) (kept_above_zero bs i ws ds n w h within))
-    ((w.reads r).loses fs negative ds n exact h.0 within (lost_before_limit ws ds n h within) h.1)
-
-lost_whole : (start whole i : ℕ) → i < whole → lost_offset start whole i ≡ start + i
-lost_whole start whole i h = if-lt i whole (start + i) (start + i + 1) h
-
-lost_fraction : (start whole i : ℕ) → whole ≤ i → lost_offset start whole i ≡ start + i + 1
-lost_fraction start whole i h = if-ge i whole (start + i) (start + i + 1) h
+    ((w.reads r).loses fs negative ds n exact h.0 within (lost_before_limit ws ds n h within))
 
 pub reads_whole_alone : (bs : List ℕ) (i : ℕ) (ws : List ℕ) → IsUtf8 bs → WholeStands bs i ws
     → ((i + length ws < length bs) × (get_or bs (i + length ws) 0 ≡ 46) → ⊥)
@@ -179,23 +174,23 @@ reads_whole_alone bs i ws u w no_point =
       to_letter = λ has lt letter r fs negative few. whole_to_letter r fs negative (get_or bs i 0) ws
           (chars (drop (i + 1) bs)) (get_or bs e 0) (chars (drop (e + 1) bs))
           (rw (next_is bs e (get_or bs e 0) u w.boundary lt refl (letter_is_ascii _ letter)) at (w.reads r))
-          (omega (arith, few.0)) (up_to r (ws ++ []) (length ws) few.1) letter;
+          (omega (arith, few.0)) (up_to r ws [] few.1) letter;
       to_end = λ has no_letter r fs negative few. whole_to_end r fs negative (get_or bs i 0) ws
           (chars (drop (i + 1) bs)) (chars (drop e bs)) (w.reads r) (omega (arith, few.0))
-          (up_to r (ws ++ []) (length ws) few.1)
+          (up_to r ws [] few.1)
           (next_fails (λ c. c == 46) bs e (λ c h. omega (arith, eqb-true c 46 h)) u w.boundary
           (λ lt. ne_eqb (get_or bs e 0) 46 (λ same. no_point (lt, same))))
           (next_fails is_exponent_letter bs e letter_is_ascii u w.boundary no_letter);
       stops = λ lacks r fs negative few. absurd (true≢false (sym lacks));
       refuses = too_many;
       loses = λ n h r fs negative exact.
-          let within : n < length ws = omega (arith, h.0.1, ap length (append-nil ws)) in
-          rw (lost_whole i (length ws) n within) (whole_lost_at bs i ws [] n u w h within r fs negative exact);
+          let within : n < length ws = omega (arith, h.0.0, ap length (append-nil ws)) in
+          rw (offset_before i (length ws) n within) (whole_lost_at bs i ws [] n u w h within r fs negative exact);
     }
   where
-    too_many : (f : DigitFault) → IsFirstTooMany ws [] f → HasTooMany ws [] f bs i
-    too_many (Whole k) h = rw (h.1) (whole_too_many bs i ws [] u w h.0)
-    too_many (Fraction k) h = absurd (omega (arith, h.0, keeps_no_fraction ws))
+    too_many : (n : ℕ) → IsFirstTooMany ws [] n → HasTooMany ws [] n bs i
+    too_many n (inl h) = rw (h.1) (whole_too_many bs i ws [] u w h.0)
+    too_many n (inr h) = absurd (omega (arith, h.0, keeps_no_fraction ws))
 
 -- With a point at offset p: what is left is the text after it.
 to_point : (bs : List ℕ) (i p : ℕ) (ws ds : List ℕ) → IsUtf8 bs → WholeStands bs i ws → p ≡ i + length ws
@@ -226,11 +221,11 @@ fraction_lost_at : (bs : List ℕ) (j : ℕ) (ws ds : List ℕ) (n : ℕ) → Is
     → r.exact ≡ true → Reports bs (Inexact (j + n)) (from r bs (numeral fs negative (pointed ws)) j)
 unfolding from
 fraction_lost_at bs j ws ds n u k h few r fs negative exact =
-    let within : n < length ds = omega (arith, h.0.1, length-append ws ds) in
+    let within : n < length ds = omega (arith, h.0.0, length-append ws ds) in
     reports_lost bs j n ds (chars (drop (j + length ds) bs)) _ u (k.from n (omega arith))
     (ap (λ cs. outcome r cs (numeral fs negative (pointed ws))) k.split
     ∙ refuse_fraction r fs negative inexact ws ds (chars (drop (j + length ds) bs)) n
-    (some_digits ds k.digits (omega arith)) (fraction_lost r ws ds n exact h.0 few h.1))
+    (some_digits ds k.digits (omega arith)) (fraction_lost r ws ds n exact h.0 few))
 
 -- The digits after it are ds, and none is missing if ds isn't empty.
 pub reads_whole_and_fraction : (bs : List ℕ) (i p : ℕ) (ws ds : List ℕ) → IsUtf8 bs → WholeStands bs i ws
@@ -254,17 +249,17 @@ reads_whole_and_fraction bs i p ws ds u w at lt is_point same =
       all_whole = w.all;
       all_fraction = k.all;
       to_letter = λ has below letter r fs negative few. begins (omega (arith, few.0)) r fs negative
-          (up_to r (ws ++ ds) (length ws) few.1)
+          (up_to r ws ds few.1)
           ∙ ap (λ cs. outcome r (ds ++ cs) (numeral fs negative (pointed ws)))
           (next_is bs e (get_or bs e 0) u k.boundary below refl (letter_is_ascii (get_or bs e 0) letter))
           ∙ fraction_to_letter r fs negative (get_or bs e 0) ws ds (chars (drop (e + 1) bs)) (there has)
           (omega (arith, few.0)) few.1 letter;
       to_end = λ has no_letter r fs negative few. begins (omega (arith, few.0)) r fs negative
-          (up_to r (ws ++ ds) (length ws) few.1)
+          (up_to r ws ds few.1)
           ∙ fraction_to_end r fs negative ws ds (chars (drop e bs)) (there has) (omega (arith, few.0)) few.1 k.next
           (next_fails is_exponent_letter bs e letter_is_ascii u k.boundary no_letter);
       stops = λ lacks r fs negative few. begins (omega (arith, few.0)) r fs negative
-          (up_to r (ws ++ ds) (length ws) few.1)
+          (up_to r ws ds few.1)
           ∙ ap (λ cs. outcome r cs (numeral fs negative (pointed ws)))
           (no_digits ds (chars (drop e bs)) (eqb-true (length ds) 0 lacks))
           ∙ stop_pointed r fs negative ws (chars (drop e bs)) k.next;
@@ -275,39 +270,40 @@ reads_whole_and_fraction bs i p ws ds u w at lt is_point same =
     not_none : (n : ℕ) → (n == 0) ≡ false → 0 < n
     not_none n h = grind (arith, nat_tests)
 
-    too_many : AreDigitsAt bs (p + 1) ds → (f : DigitFault) → IsFirstTooMany ws ds f → HasTooMany ws ds f bs i
-    too_many k (Whole n) h = rw (h.1) (whole_too_many bs i ws ds u w h.0)
-    too_many k (Fraction n) h = λ r fs negative none.
-        let offset : i + length ws + 1 + n ≡ p + 1 + 32768 = omega (arith, at, h.1) in
-        rw (offset) (subst (Reports bs (Limit (p + 1 + 32768)))
+    too_many : AreDigitsAt bs (p + 1) ds → (n : ℕ) → IsFirstTooMany ws ds n → HasTooMany ws ds n bs i
+    too_many k n (inl h) = rw (h.1) (whole_too_many bs i ws ds u w h.0)
+    too_many k n (inr h) = λ r fs negative none.
+        let offset : digit_offset i (length ws) n ≡ p + 1 + 32768 =
+        offset_after i (length ws) n (omega (arith, h.1)) ∙ omega (arith, at, h.1) in
+        rw offset (subst (Reports bs (Limit (p + 1 + 32768)))
         (sym (to_point bs i p ws ds u w at lt is_point (omega (arith, h.0))
-        r fs negative (λ e j past below within. none e j past (omega (arith, h.1)) within)))
+        r fs negative (λ e j below. none e j (omega (arith, h.1)))))
         (fraction_too_many bs (p + 1) ws ds u k h.0 r fs negative))
 
     loses : AreDigitsAt bs (p + 1) ds → (n : ℕ) → IsFirstLost ws ds n → LosesDigit ws ds n bs i
     loses k n h r fs negative exact =
         elim (cases_lt n (length ws)) [
-          | inl before ↦ rw (lost_whole i (length ws) n before) (whole_lost_at bs i ws ds n u w h before r fs negative exact)
+          | inl before ↦ rw (offset_before i (length ws) n before) (whole_lost_at bs i ws ds n u w h before r fs negative exact)
           | inr after ↦
               (let m : ℕ = n - length ws in
               let here : length ws + m ≡ n = omega arith in
-              let offset : lost_offset i (length ws) n ≡ p + 1 + m =
-              lost_fraction i (length ws) n after ∙ omega (arith, at) in
+              let offset : digit_offset i (length ws) n ≡ p + 1 + m =
+              offset_after i (length ws) n after ∙ omega (arith, at) in
               let few : kept_fraction ws ds < 32769 = few_kept_before h after in
               rw offset (subst (Reports bs (Inexact (p + 1 + m)))
               (sym (to_point bs i p ws ds u w at lt is_point (few_dropped_before h after) r fs negative
-              (λ e j past below within. h.1 j past (omega arith) within)))
+              (λ e j below. h.0.2 j (omega arith))))
               (fraction_lost_at bs (p + 1) ws ds m u k (rw here h) few r fs negative exact)))
         ]
       where
         few_kept_before : IsFirstLost ws ds n → length ws ≤ n → kept_fraction ws ds < 32769
         few_kept_before h after = elim (cases_lt (kept_fraction ws ds) 32769) [
           | inl few ↦ few
-          | inr many ↦ absurd (omega (arith, h.0.0, h.2 (Fraction 32768) (many, refl)))
+          | inr many ↦ absurd (omega (arith, (lost_so (ws ++ ds) n h.0.0 h.0.1).0, h.1 (length ws + 32768) (inr (many, refl))))
         ]
 
         few_dropped_before : IsFirstLost ws ds n → length ws ≤ n → dropped ws ds < 32768
         few_dropped_before h after = elim (cases_lt (dropped ws ds) 32768) [
           | inl few ↦ few
-          | inr many ↦ absurd (omega (arith, h.2 (Whole (kept_len (ws ++ ds) + 32767)) (many, refl)))
+          | inr many ↦ absurd (omega (arith, h.1 (kept_len (ws ++ ds) + 32767) (inl (many, refl))))
         ]

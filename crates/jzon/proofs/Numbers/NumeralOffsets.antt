@@ -1,13 +1,14 @@
 -- The digits of a number and its exponent, by offsets of the text's bytes.
-use Rattle.jzon_base.proofs.Common.{◌≡◌, ◌∙◌, ℕ, zero, suc, ◌+◌, ◌-◌, ◌<◌, ◌≤◌, Bool, true, false, cond, ◌==◌, List, [], ◌∷◌, ◌++◌}
+use Rattle.jzon_base.proofs.Common.{◌≡◌, ◌∙◌, ℕ, zero, suc, ◌+◌, ◌+ℤ◌, ◌-◌, ◌<◌, ◌≤◌, Bool, true, false, cond, ◌==◌, List, [], ◌∷◌, ◌++◌}
 use Rattle.jzon_base.proofs.Common.{length, take, drop, get_or, refl, sym, ap, subst, arith, eqb-true, not, chars}
 use Rattle.jzon_base.proofs.Common.{IsUtf8, is_ascii_digit, IsCharBoundary, All, take_while, prefix_len, ne_eqb}
 use Rattle.jzon_base.proofs.Common.{nat_tests, drop-drop, length-drop, All-nil, All-cons, prefix_len-le-length}
 use Rattle.jzon_base.proofs.Common.{IsUtf8-drop, IsCharBoundary-from_drop, IsCharBoundary-after_ascii}
 use Rattle.std.proofs.lemmas.List.Folds.{length-prefix_len}
 use Rattle.jzon_base.specs.Decimal.{signed}
-use Rattle.jzon_base.specs.Digits.{IsDigit, digits_number, number_read}
-use Rattle.jzon_base.specs.LostDigits.{leaves_range, StaysInRange, IsFirstOutOfRange}
+use Rattle.jzon_base.specs.Digits.{IsDigit, digits_number, kept, own_power, number_read}
+use Rattle.jzon_base.specs.LostDigits.{HoldsOfNone, IsFirst, is_out_of_range, leaves_range}
+use Rattle.jzon_base.proofs.Numbers.LostDigits.{none_by, first_by}
 use Rattle.jzon_tree.specs.Value as value
 use Rattle.jzon.specs.Reading.{Reading}
 use Rattle.jzon.specs.Grammar.{Sign, unsigned, plus, minus, AreDigits, IsDigits}
@@ -143,14 +144,14 @@ pub record ReadsExponent (bs : List ℕ) (i : ℕ) (positive : Bool) (xs : List 
   pub boundary : IsCharBoundary bs e
   pub all : All IsDigit xs
   pub number : 0 < length xs → (r : Reading) (fs : Frames) (negative : Bool) (ws ds : List ℕ) (l : ℕ)
-      → (r.exact ≡ true → StaysInRange ws ds (signed positive) xs)
+      → (r.exact ≡ true → HoldsOfNone (leaves_range ws ds (signed positive)) xs)
       → from r bs (numeral fs negative (after_letter ws ds l)) i
       ≡ from r bs
       (after_value fs (value.number (number_read (not negative) ws ds (signed positive (digits_number xs))))) e
   pub missing : length xs ≡ 0 → (r : Reading) (fs : Frames) (negative : Bool) (ws ds : List ℕ) (l : ℕ)
       → from r bs (numeral fs negative (after_letter ws ds l)) i ≡ fault_here (chars (drop e bs))
   pub leaves : (n : ℕ) (r : Reading) (fs : Frames) (negative : Bool) (ws ds : List ℕ) (l : ℕ) → r.exact ≡ true
-      → IsFirstOutOfRange ws ds (signed positive) xs n
+      → IsFirst (leaves_range ws ds (signed positive)) xs n
       → Reports bs (Inexact (e - length xs + n)) (from r bs (numeral fs negative (after_letter ws ds l)) i)
 
 pub some_digits : (ds : List ℕ) → AreDigits ds → 0 < length ds → IsDigits ds
@@ -220,8 +221,8 @@ reads_signed bs i xs s b positive u at lt here ascii step sign e =
       all = k.all;
       number = λ some r fs negative ws ds l stays. to_sign r fs negative ws ds l
           ∙ signed_to_end r fs negative ws ds l s xs rest (some_digits xs k.digits some)
-          (exponent_unmarked r ws ds s xs (λ exact n below. same ws ds (digits_number (take (suc n) xs))
-          ∙ stays exact n below)) k.next
+          (exponent_unmarked r ws ds s xs (λ exact. none_by (leaves_range ws ds (signed positive))
+          (leaves_range ws ds (meaning.signed_exponent s)) xs (length xs) (same ws ds) (stays exact))) k.next
           ∙ ap (λ z. outcome r rest (after_value fs (value.number (number_read (not negative) ws ds z))))
           (sym (sign (digits_number xs)));
       missing = λ none r fs negative ws ds l. to_sign r fs negative ws ds l
@@ -233,16 +234,12 @@ reads_signed bs i xs s b positive u at lt here ascii step sign e =
           (to_sign r fs negative ws ds l
           ∙ refuse_signed_exponent r fs negative inexact ws ds l s xs rest n
           (some_digits xs k.digits (omega (arith, out.0)))
-          (exponent_marked r ws ds s xs n exact (
-            out.0,
-            same ws ds (digits_number (take (suc n) xs)) ∙ out.1,
-            λ j below. same ws ds (digits_number (take (suc j) xs)) ∙ out.2 j below,
-          ))));
+          (exponent_marked r ws ds s xs n exact (first_by (leaves_range ws ds (signed positive))
+          (leaves_range ws ds (meaning.signed_exponent s)) xs n (same ws ds) out))));
     }
   where
-    same : (ws ds : List ℕ) (n : ℕ)
-        → leaves_range ws ds (meaning.signed_exponent s n) ≡ leaves_range ws ds (signed positive n)
-    same ws ds n = ap (leaves_range ws ds) (sym (sign n))
+    same : (ws ds xs : List ℕ) → leaves_range ws ds (meaning.signed_exponent s) xs ≡ leaves_range ws ds (signed positive) xs
+    same ws ds xs = ap (λ z. is_out_of_range (digits_number (kept (ws ++ ds))) (own_power ws ds +ℤ z)) (sym (sign (digits_number xs)))
 
 pub reads_minus : (bs : List ℕ) (i : ℕ) (xs : List ℕ) → IsUtf8 bs → IsCharBoundary bs i → i < length bs
     → get_or bs i 0 ≡ 45

@@ -3,7 +3,8 @@ use Rattle.jzon_base.proofs.Common.{◌≡◌, suc, ◌∙◌, ℕ, ◌+◌, ◌
 use Rattle.jzon_base.proofs.Common.{◌==◌, zero, Option, None, refl, sym, ap, arith, true≢false, append-nil, IsTrue, ⊤, inl, inr, cases_lt}
 use Rattle.jzon_base.proofs.Common.{is_ascii_digit, eqb-false}
 use Rattle.jzon_base.specs.Digits.{kept_len, dropped, kept_fraction}
-use Rattle.jzon_base.specs.LostDigits.{IsLost, LosesNoneBefore}
+use Rattle.jzon_base.specs.LostDigits.{IsFirst, loses_last}
+use Rattle.jzon_base.proofs.Numbers.LostDigits.{lost_so}
 use Rattle.jzon_base.proofs.Numbers.DigitPrefixes.{kept_len_is_longest}
 use Rattle.jzon.specs.Reading.{Reading}
 use Rattle.jzon.specs.Grammar.{Sign, unsigned, AreDigits, IsDigits, is_exponent_letter, Exponent}
@@ -113,8 +114,8 @@ pub record ReadsWhole (r : Reading) (d : ℕ) (ws cs rest : List ℕ) : Type 0 w
       → LosesNoneUpTo r (ws ++ gs) (kept_len (ws ++ gs) + 32767)
       → outcome r cs (numeral fs negative (after_first_digit (d == 48) d))
       ≡ refused (limit digit) (drop (kept_len (ws ++ gs) + 32767) ws ++ rest)
-  pub loses : (fs : Frames) (negative : Bool) (gs : List ℕ) (p : ℕ) → r.exact ≡ true → IsLost (ws ++ gs) p
-      → p < length ws → p < kept_len (ws ++ gs) + 32767 → LosesNoneBefore (ws ++ gs) p
+  pub loses : (fs : Frames) (negative : Bool) (gs : List ℕ) (p : ℕ) → r.exact ≡ true
+      → IsFirst loses_last (ws ++ gs) p → p < length ws → p < kept_len (ws ++ gs) + 32767
       → outcome r cs (numeral fs negative (after_first_digit (d == 48) d))
       ≡ refused (limit inexact) (drop p ws ++ rest)
 
@@ -127,15 +128,15 @@ reads_zero r d cs is_zero = record {
   next = nothing cs;
   reads = λ fs negative gs few none. ap (λ t. outcome r cs (numeral fs negative (after_first_digit t d))) is_zero;
   refuses = λ fs negative gs many none. absurd (omega arith);
-  loses = λ fs negative gs p exact lost within few none. absurd (not_first gs p lost within);
+  loses = λ fs negative gs p exact lost within few. absurd (not_first gs p lost within);
 }
   where
     nothing : (cs : List ℕ) → NextFails (λ c. false) cs
     nothing [] = tt
     nothing (c ∷ cs) = refl
 
-    not_first : (gs : List ℕ) (p : ℕ) → IsLost (48 ∷ gs) p → p < 1 → ⊥
-    not_first gs zero lost within = lost.2 refl
+    not_first : (gs : List ℕ) (p : ℕ) → IsFirst loses_last (48 ∷ gs) p → p < 1 → ⊥
+    not_first gs zero lost within = (lost_so (48 ∷ gs) 0 lost.0 lost.1).1 refl
     not_first gs (suc p) lost within = absurd (omega arith)
 
 -- the first digit is kept
@@ -156,15 +157,15 @@ reads_digits r d es rest some below ok stop = record {
   is_after = λ fs negative. whole_is_after r fs negative d es;
   next = stop;
   reads = λ fs negative gs few none. begins fs negative
-      ∙ read_whole r fs negative (d ∷ []) es rest ok (whole_unmarked r (d ∷ []) es gs few none);
+      ∙ read_whole r fs negative (d ∷ []) es rest ok (whole_unmarked r (d ∷ es) gs few none);
   refuses = λ fs negative gs many none.
       let n : suc (kept_len (d ∷ es ++ gs) + 32766) ≡ kept_len (d ∷ es ++ gs) + 32767 = omega arith in
       begins fs negative
-      ∙ refuse_whole r fs negative digit (d ∷ []) es rest (kept_len (d ∷ es ++ gs) + 32766) ok
-      (whole_marked r (d ∷ []) es gs (kept_len (d ∷ es ++ gs) + 32766) many (omega arith) none)
+      ∙ refuse_whole r fs negative digit (d ∷ []) es rest (kept_len (d ∷ es ++ gs) + 32767)
+      (kept_len (d ∷ es ++ gs) + 32766) ok (whole_marked r (d ∷ es) gs many none) (omega arith)
       ∙ ap (λ k. refused (limit digit) (drop k (d ∷ es) ++ rest)) n;
-  loses = λ fs negative gs p exact lost within few none. begins fs negative
-      ∙ lost_at fs negative gs p exact lost within few none;
+  loses = λ fs negative gs p exact lost within few. begins fs negative
+      ∙ lost_at fs negative gs p exact lost within few;
 }
   where
     begins : (fs : Frames) (negative : Bool)
@@ -172,14 +173,15 @@ reads_digits r d es rest some below ok stop = record {
         ≡ outcome r (es ++ rest) (numeral fs negative (whole (d ∷ [])))
     begins fs negative = ap (λ t. outcome r (es ++ rest) (numeral fs negative (after_first_digit t d))) some
 
-    lost_at : (fs : Frames) (negative : Bool) (gs : List ℕ) (p : ℕ) → r.exact ≡ true → IsLost (d ∷ es ++ gs) p
-        → p < length (d ∷ es) → p < kept_len (d ∷ es ++ gs) + 32767 → LosesNoneBefore (d ∷ es ++ gs) p
+    lost_at : (fs : Frames) (negative : Bool) (gs : List ℕ) (p : ℕ) → r.exact ≡ true
+        → IsFirst loses_last (d ∷ es ++ gs) p → p < length (d ∷ es) → p < kept_len (d ∷ es ++ gs) + 32767
         → outcome r (es ++ rest) (numeral fs negative (whole (d ∷ [])))
         ≡ refused (limit inexact) (drop p (d ∷ es) ++ rest)
-    lost_at fs negative gs zero exact lost within few none = absurd (omega (arith, lost.0, first_kept d (es ++ gs) below))
-    lost_at fs negative gs (suc i) exact lost within few none =
-        refuse_whole r fs negative inexact (d ∷ []) es rest i ok
-        (whole_lost r (d ∷ []) es gs (suc i) i exact lost within few none (omega arith))
+    lost_at fs negative gs zero exact lost within few =
+        absurd (omega (arith, (lost_so (d ∷ es ++ gs) 0 lost.0 lost.1).0, first_kept d (es ++ gs) below))
+    lost_at fs negative gs (suc i) exact lost within few =
+        refuse_whole r fs negative inexact (d ∷ []) es rest (suc i) i ok
+        (whole_lost r (d ∷ es) gs (suc i) exact lost within few) (omega arith)
 
 module _ (r : Reading) (fs : Frames) (negative : Bool) where
   module _ (d : ℕ) (ws cs : List ℕ) where
@@ -273,14 +275,14 @@ module _ (r : Reading) (fs : Frames) (negative : Bool) where
       ∙ ap (λ ys. outcome r rest (V r fs negative ws ds (exponent_of l s ys))) (same_order xs)
 
   pub unsigned_to_end : (ws ds : List ℕ) (l : ℕ) (xs rest : List ℕ) → IsDigits xs
-      → AreUnmarked (exponent_breach r ws ds unsigned) [] xs → NextFails is_ascii_digit rest
+      → AreUnmarked (exponent_breach r ws ds unsigned) xs → NextFails is_ascii_digit rest
       → outcome r (xs ++ rest) (N r fs negative (after_letter ws ds l))
       ≡ outcome r rest (V r fs negative ws ds (exponent_of l unsigned xs))
   unsigned_to_end ws ds l xs rest ok clear stop =
       read_unsigned_exponent r fs negative ws ds l xs rest ok clear ∙ collected_to_end ws ds l unsigned xs rest stop
 
   pub signed_to_end : (ws ds : List ℕ) (l : ℕ) (s : Sign) (xs rest : List ℕ) → IsDigits xs
-      → AreUnmarked (exponent_breach r ws ds s) [] xs → NextFails is_ascii_digit rest
+      → AreUnmarked (exponent_breach r ws ds s) xs → NextFails is_ascii_digit rest
       → outcome r (xs ++ rest) (N r fs negative (signed_exponent ws ds l s))
       ≡ outcome r rest (V r fs negative ws ds (exponent_of l s xs))
   signed_to_end ws ds l s xs rest ok clear stop =

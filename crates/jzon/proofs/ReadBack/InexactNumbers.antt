@@ -368,9 +368,9 @@ magnitude_first r (d ∷ es) fs x ok fs_ok h =
     after_whole [] h = inr (λ i within. absurd (omega (arith, within)), h)
     after_whole (c ∷ cs) h = elim (digits_first (fraction_breach r (d ∷ es)) [] (c ∷ cs)
         (exponent_cells r (d ∷ es) (c ∷ cs) x []) (past 46 _ h)) [
-          | inl found ↦ inl found
-          | inr clear ↦ inr (λ i within. clear.0 i (omega arith) within, clear.1)
-        ]
+      | inl found ↦ inl found
+      | inr clear ↦ inr (λ i within. clear.0 i (omega arith) within, clear.1)
+    ]
 
 pub inexact_numbers : InexactNumbers
 inexact_numbers r n i ok here before = by_sign n.negative (first_inexact (numeral_cells r n None []) i here before)

@@ -1,14 +1,15 @@
 -- The text of a number of the grammar that has few digits.
 use Rattle.jzon_base.proofs.Common.{◌≡◌, ℕ, ◌+◌, ◌<◌, ◌≤◌, List, [], ◌∷◌, ◌++◌, length, Bool, true, false, codes}
 use Rattle.jzon_base.proofs.Common.{Option, Some, None, refl, sym, ap, ◌∙◌, arith, length-append, ⊤}
-use Rattle.jzon_base.specs.LostDigits.{LosesNone, StaysInRange}
+use Rattle.jzon_base.specs.LostDigits.{HoldsOfNone, loses_last, leaves_range}
 use Rattle.jzon_base.proofs.Numbers.DigitPrefixes.{kept_len_is_longest}
 use Rattle.jzon.specs.Grammar.{Sign, unsigned, plus, minus, Exponent, Numeral}
 use Rattle.jzon.specs.Reading.{Reading}
 use Rattle.jzon.specs.Meaning.{signed_exponent}
-use Rattle.jzon.specs.Spelling.{Breach, Cell, cell, plain, digits_cells, whole_breach, fraction_breach, fraction_cells}
+use Rattle.jzon.specs.Spelling.{Breach, Cell, cell, plain, onto, digits_cells, whole_breach, fraction_breach, fraction_cells}
 use Rattle.jzon.specs.Spelling.{exponent_breach, exponent_cells, sign_cells, whole_cells, magnitude_cells, numeral_cells}
-use Rattle.jzon.proofs.Numbers.NumberLimits.{AreUnmarked, up_to, whole_unmarked, fraction_unmarked, exponent_unmarked}
+use Rattle.jzon.proofs.Numbers.NumberLimits.{AreUnmarked, next_clear, length-onto, up_to, whole_unmarked, fraction_unmarked}
+use Rattle.jzon.proofs.Numbers.NumberLimits.{exponent_unmarked}
 use Rattle.jzon.proofs.Texts.Cells.{plain-append}
 
 -- ---- the text
@@ -40,24 +41,27 @@ numeral_spelled n = minus_spelled n.negative ++ magnitude_spelled n.whole n.frac
 -- No digit but 0 is dropped, and the exponent isn't clamped.
 abbrev pub StaysExponent : List ℕ → List ℕ → Option Exponent → Type 0
 StaysExponent whole fraction None = ⊤
-StaysExponent whole fraction (Some e) = StaysInRange whole fraction (signed_exponent e.sign) e.digits
+StaysExponent whole fraction (Some e) = HoldsOfNone (leaves_range whole fraction (signed_exponent e.sign)) e.digits
 
 abbrev pub LosesNothing : Numeral → Type 0
-LosesNothing n = LosesNone (n.whole ++ n.fraction) × StaysExponent n.whole n.fraction n.exponent
+LosesNothing n = HoldsOfNone loses_last (n.whole ++ n.fraction) × StaysExponent n.whole n.fraction n.exponent
 
-digits-plain : (breach : List ℕ → Option Breach) (prefix ds : List ℕ) (k : List Cell) → AreUnmarked breach prefix ds
-    → digits_cells breach prefix ds k ≡ plain ds k
+digits-plain : (breach : List ℕ → Option Breach) (prefix ds : List ℕ) (k : List Cell)
+    → AreUnmarked breach (onto prefix ds) → digits_cells breach prefix ds k ≡ plain ds k
 digits-plain breach prefix [] k h = refl
-digits-plain breach prefix (d ∷ ds) k h = rw (h.0, digits-plain breach (d ∷ prefix) ds k h.1) refl
+digits-plain breach prefix (d ∷ ds) k h = rw (
+  next_clear breach prefix d ds _ h (omega (arith, length-onto prefix (d ∷ ds))),
+  digits-plain breach (d ∷ prefix) ds k h,
+) refl
 
 module _ (r : Reading) where
-  whole-plain : (ws fs : List ℕ) (k : List Cell) → length ws < 32768 → LosesNone (ws ++ fs)
+  whole-plain : (ws fs : List ℕ) (k : List Cell) → length ws < 32768 → HoldsOfNone loses_last (ws ++ fs)
       → whole_cells r ws None k ≡ plain ws k
   whole-plain [] fs k h none = refl
   whole-plain (d ∷ ds) fs k h none = ap (λ q. cell d None ∷ q) (digits-plain (whole_breach r) (d ∷ []) ds k
-      (whole_unmarked r (d ∷ []) ds fs (omega arith) (up_to r (d ∷ ds ++ fs) (length (d ∷ ds)) (λ e. none))))
+      (whole_unmarked r (d ∷ ds) fs (omega arith) (up_to r (d ∷ ds) fs (λ e. none))))
 
-  fraction-plain : (ws fs : List ℕ) (k : List Cell) → length fs < 32769 → LosesNone (ws ++ fs)
+  fraction-plain : (ws fs : List ℕ) (k : List Cell) → length fs < 32769 → HoldsOfNone loses_last (ws ++ fs)
       → fraction_cells r ws fs k ≡ plain (fraction_spelled fs) k
   fraction-plain ws [] k h none = refl
   fraction-plain ws (d ∷ ds) k h none =

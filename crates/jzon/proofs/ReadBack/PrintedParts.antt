@@ -9,13 +9,13 @@ use Rattle.std.proofs.lemmas.Str.Parse.{IsNumeralModel, numerals_by_fold}
 use Rattle.std.proofs.lemmas.Fmt.{decimal_nonempty, digits_decimal, first_decimal, digits_value-decimal}
 use Rattle.std.proofs.lemmas.List.Elements.{All-from_recursion}
 use Rattle.jzon_base.specs.Digits.{IsDigit, add_digit, digits_number, kept_len, kept, dropped, kept_fraction}
-use Rattle.jzon_base.specs.Digits.{read_exponent, clamp}
+use Rattle.jzon_base.specs.Digits.{own_power, read_exponent, clamp}
 use Rattle.jzon_base.specs.Decimal.{Decimal, parts, same}
 use Rattle.jzon_base.specs.NumberText.{sign_text, magnitude_text, number_text, decimal_text}
 use Rattle.jzon_base.specs.Private.Same.{same_equiv}
-use Rattle.std.proofs.lemmas.Cmp.{int_eq_equiv}
-use Rattle.jzon_base.specs.LostDigits.{LosesNone, is_clamped, leaves_range, own_power}
-use Rattle.jzon_base.proofs.Numbers.DigitPrefixes.{kept_all, fold-take-le}
+use Rattle.jzon_base.specs.LostDigits.{HoldsOfNone, loses_last}
+use Rattle.jzon_base.proofs.Numbers.LostDigits.{held_if, in_range_if, prefix_le}
+use Rattle.jzon_base.proofs.Numbers.DigitPrefixes.{kept_all}
 use Rattle.jzon.specs.Grammar.{Sign, unsigned, plus, minus, Exponent, Numeral, AreDigits}
 use Rattle.jzon.specs.Grammar as grammar
 use Rattle.jzon.specs.Meaning.{signed_exponent, written_exponent, number_of}
@@ -156,20 +156,11 @@ clamp_small e fits = omega (arith, ints, clamps)
 -- ---- nothing is lost
 
 -- if all digits fit, none is dropped
-pub all_kept : (ds : List ℕ) → digits_number ds < 2 ^ 64 → LosesNone ds
-all_kept ds fits i past below within = absurd (omega (arith, past, kept_all ds fits))
-
-and_false : (b : Bool) → (b && false) ≡ false
-and_false true = refl
-and_false false = refl
-
-pub in_range : (ws fs : List ℕ) (z : ℤ) → clamp (own_power ws fs +ℤ z) ≡ own_power ws fs +ℤ z
-    → leaves_range ws fs z ≡ false
-unfolding leaves_range is_clamped
-in_range ws fs z h = rw (h, int_eq_equiv.refl (own_power ws fs +ℤ z)) (and_false _)
+pub all_kept : (ds : List ℕ) → digits_number ds < 2 ^ 64 → HoldsOfNone loses_last ds
+all_kept ds fits i within = held_if ds i within (λ past. absurd (omega (arith, kept_all ds fits)))
 
 -- if all digits of the exponent leave it in range, each prefix of them does
-on_the_way : (s : Sign) (p : ℤ) (n m : ℕ) → FitsSigned w16 p → FitsSigned w16 (p +ℤ signed_exponent s m) → n ≤ m
+pub on_the_way : (s : Sign) (p : ℤ) (n m : ℕ) → FitsSigned w16 p → FitsSigned w16 (p +ℤ signed_exponent s m) → n ≤ m
     → clamp (p +ℤ signed_exponent s n) ≡ p +ℤ signed_exponent s n
 on_the_way unsigned p n m first last le = omega (arith, ints, clamps, first, last)
 on_the_way plus p n m first last le = omega (arith, ints, clamps, first, last)
@@ -184,15 +175,12 @@ exponent_stays ws fs (Some x) e fits few sum small = λ i within.
     let none : dropped ws fs ≡ 0 = omega (arith, all, length-append ws fs) in
     let some : kept_fraction ws fs ≡ length fs = omega (arith, all, length-append ws fs) in
     let prefix : ℕ = digits_number (take (suc i) x.digits) in
-    let whole : digits_number (take (length x.digits) x.digits) ≡ digits_number x.digits =
-    ap digits_number (take_all (length x.digits) x.digits (omega arith)) in
-    let le : prefix ≤ digits_number x.digits =
-    omega (arith, whole, fold-take-le 0 x.digits (suc i) (length x.digits) (omega arith)) in
+    let le : prefix ≤ digits_number x.digits = prefix_le x.digits (suc i) (omega arith) in
     let first : FitsSigned w16 (pos 0 -ℤ pos (length fs)) = omega (arith, ints) in
     let last : FitsSigned w16 ((pos 0 -ℤ pos (length fs)) +ℤ signed_exponent x.sign (digits_number x.digits)) =
     rw sum small in
     let power : (pos (dropped ws fs) -ℤ pos (kept_fraction ws fs)) ≡ (pos 0 -ℤ pos (length fs)) = rw (none, some) refl in
-    in_range ws fs (signed_exponent x.sign prefix)
+    in_range_if _ (own_power ws fs +ℤ signed_exponent x.sign prefix)
     (rw power (on_the_way x.sign (pos 0 -ℤ pos (length fs)) prefix (digits_number x.digits) first last le))
 
 -- the parts, if all digits fit and the powers of ten add up

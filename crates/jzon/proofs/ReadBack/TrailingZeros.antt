@@ -21,7 +21,8 @@ use Rattle.jzon.proofs.ReadBack.NumeralTexts.{numeral_spelled, minus_spelled}
 use Rattle.jzon.proofs.ReadBack.PrintedParts.{HasNumeral, numeral, AllDigits, IsWholePart, whole_test, all-zeros}
 use Rattle.jzon.proofs.ReadBack.PrintedParts.{number_decimal, digits-append, IsMantissa, mantissa, if-le, if-ne}
 use Rattle.jzon.proofs.ReadBack.PrintedParts.{number_text-above, means_as, exact_parts, minus-is, all_kept}
-use Rattle.jzon_base.specs.LostDigits.{LosesNone}
+use Rattle.jzon_base.specs.LostDigits.{HoldsOfNone, loses_last}
+use Rattle.jzon_base.proofs.Numbers.LostDigits.{held_if}
 use Rattle.std.proofs.Math.Seq.{get_or-append_seam}
 
 -- ---- powers of ten
@@ -131,11 +132,12 @@ one_dropped s w u n all value size =
     rw (not-not s, inner, all, value) refl
 
 -- if only the last digit is dropped, and is 0, none is lost
-last_zero : (w prefix : List ℕ) (n : ℕ) → n ≡ length prefix → kept_len w ≡ n → w ≡ prefix ++ 48 ∷ [] → LosesNone w
-last_zero w prefix n size all split i past below within =
+last_zero : (w prefix : List ℕ) (n : ℕ) → n ≡ length prefix → kept_len w ≡ n → w ≡ prefix ++ 48 ∷ []
+    → HoldsOfNone loses_last w
+last_zero w prefix n size all split i within = held_if w i within (λ past.
     let len : length w ≡ n + 1 = ap length split ∙ length-append prefix (48 ∷ []) ∙ omega (arith, size) in
     let at : i ≡ length prefix = omega (arith, len, size, all) in
-    rw at (ap (λ l. get_or l (length prefix) 0) split ∙ get_or-append_seam prefix 48 [] 0)
+    rw at (ap (λ l. get_or l (length prefix) 0) split ∙ get_or-append_seam prefix 48 [] 0))
 
 below_power : (v : ℕ) (ds : List ℕ) → AllDigits ds → fold add_digit v ds < (v + 1) * 10 ^ length ds
 below_power v [] all = omega arith

@@ -15,7 +15,7 @@ abbrev pub HaveNoMarks : List Cell → Type 0
 HaveNoMarks [] = ⊤
 HaveNoMarks (x ∷ q) = (x.mark ≡ None) × HaveNoMarks q
 
-no_mark : (m : Option Breach) → ((b : Breach) → m ≡ Some b → ⊥) → m ≡ None
+pub no_mark : (m : Option Breach) → ((b : Breach) → m ≡ Some b → ⊥) → m ≡ None
 no_mark None h = cc
 no_mark (Some b) h = absurd (h b cc)
 

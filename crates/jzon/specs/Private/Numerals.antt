@@ -1,9 +1,7 @@
 -- What the rest of a text leads to after the first digit of a number, in any reading and inside any open containers.
 use Rattle.std.specs.Prelude.{◌≡◌, ℕ, ◌+◌, List, ◌++◌, length, Bool, true, chars, drop, slice_index, nat_lt, if◌then◌else◌}
 use Rattle.jzon_base.specs.DigitLimits.{AreFewEnough}
-use Rattle.jzon_base.specs.LostDigits.{LosesNone, LosesNoneBefore, fault_position}
-use Rattle.jzon_base.specs.declared.digits.DigitFault.{DigitFault}
-use Rattle.jzon_base.specs.declared.digits.DigitFault.TheVariants.{Whole, Fraction}
+use Rattle.jzon_base.specs.LostDigits.{HoldsOfNone, HoldsOfNoneBefore, loses_last}
 use Rattle.jzon_base.specs.declared.digits.NumberFault.{NumberFault}
 use Rattle.jzon_base.specs.declared.digits.NumberFault.TheVariants.{TooMany, Lost, OutOfRange}
 use Rattle.jzon.specs.declared.fault.Stop.{Stop}
@@ -18,7 +16,7 @@ after_first r fs negative text start =
 
 -- The digits before and after the point exceed no limit, and an exact reading loses none of them.
 abbrev pub AreKept : Reading → List ℕ → List ℕ → Type 0
-AreKept r whole fraction = AreFewEnough whole fraction × (r.exact ≡ true → LosesNone (whole ++ fraction))
+AreKept r whole fraction = AreFewEnough whole fraction × (r.exact ≡ true → HoldsOfNone loses_last (whole ++ fraction))
 
 -- it is the outcome from offset `end` in the state that the containers and the sign give, if these digits are kept
 abbrev pub LeadsTo : List ℕ → List ℕ → List ℕ → ℕ → ℕ → (Frames → Bool → State) → Type 0
@@ -30,29 +28,24 @@ abbrev pub MissesDigit : List ℕ → List ℕ → List ℕ → ℕ → ℕ → 
 MissesDigit whole fraction text start end = (r : Reading) (fs : Frames) (negative : Bool) → AreKept r whole fraction
     → after_first r fs negative text start ≡ fault_here (chars (drop end text))
 
--- the offset of the digit that exceeds a limit, where so many digits are before the point
-abbrev pub digit_offset : ℕ → ℕ → DigitFault → ℕ
-digit_offset start whole (Whole i) = start + i
-digit_offset start whole (Fraction i) = start + whole + 1 + i
-
--- The number has more digits than one may have, and the first one too many is at offset `at`, unless an exact reading
--- loses a digit before it.
-abbrev pub HasTooMany : List ℕ → List ℕ → DigitFault → List ℕ → ℕ → Type 0
-HasTooMany whole fraction f text start = (r : Reading) (fs : Frames) (negative : Bool)
-    → (r.exact ≡ true → LosesNoneBefore (whole ++ fraction) (fault_position (length whole) f))
-    → Reports text (Limit (digit_offset start (length whole) f)) (after_first r fs negative text start)
-
 -- the offset of the digit at this position among those before and after the point
-abbrev pub lost_offset : ℕ → ℕ → ℕ → ℕ
-lost_offset start whole i = if nat_lt i whole then start + i else start + i + 1
+abbrev pub digit_offset : ℕ → ℕ → ℕ → ℕ
+digit_offset start whole i = if nat_lt i whole then start + i else start + i + 1
+
+-- The number has more digits than one may have, and the digit at this position is the first one too many, unless an
+-- exact reading loses a digit before it.
+abbrev pub HasTooMany : List ℕ → List ℕ → ℕ → List ℕ → ℕ → Type 0
+HasTooMany whole fraction i text start = (r : Reading) (fs : Frames) (negative : Bool)
+    → (r.exact ≡ true → HoldsOfNoneBefore loses_last (whole ++ fraction) i)
+    → Reports text (Limit (digit_offset start (length whole) i)) (after_first r fs negative text start)
 
 -- the stop at a digit of a number, which has so many digits before the point, and those of its exponent from this offset on
 abbrev pub number_stop : ℕ → ℕ → ℕ → NumberFault → Stop
-number_stop start whole exponent (TooMany f) = Limit (digit_offset start whole f)
-number_stop start whole exponent (Lost i) = Inexact (lost_offset start whole i)
+number_stop start whole exponent (TooMany i) = Limit (digit_offset start whole i)
+number_stop start whole exponent (Lost i) = Inexact (digit_offset start whole i)
 number_stop start whole exponent (OutOfRange i) = Inexact (exponent + i)
 
 -- an exact reading stops at a digit that is lost
 abbrev pub LosesDigit : List ℕ → List ℕ → ℕ → List ℕ → ℕ → Type 0
 LosesDigit whole fraction i text start = (r : Reading) (fs : Frames) (negative : Bool) → r.exact ≡ true
-    → Reports text (Inexact (lost_offset start (length whole) i)) (after_first r fs negative text start)
+    → Reports text (Inexact (digit_offset start (length whole) i)) (after_first r fs negative text start)

@@ -3,7 +3,7 @@ use Rattle.jzon_base.proofs.Common.{◌≡◌, ℕ, zero, suc, ◌+◌, ◌-◌,
 use Rattle.jzon_base.proofs.Common.{ap, ◌∙◌, subst, arith, inl, inr, length-append, add-zero, zero-add, add-suc}
 use Rattle.jzon_base.proofs.Common.{suc-add, pow-suc, nat_lt, if◌then◌else◌, lit<, fold, All, fold-append}
 use Rattle.jzon_base.proofs.Common.{take-append-le, take_all, All-head, All-tail, pow-le-pow_right, take-add}
-use Rattle.jzon_base.proofs.Common.{take-append-add, cases_lt, nat_tests}
+use Rattle.jzon_base.proofs.Common.{take-append-add, take-append-drop, length-take-le, min, cases_lt, nat_tests}
 use Rattle.jzon_base.proofs.Common.{◌%◌, true, refl, sym, is_ascii_digit, prefix_len, All-append, All-take, length-take, mod-eq_of_lt}
 use Rattle.jzon_base.specs.DigitLimits.{IsLongestPrefix}
 use Rattle.jzon_base.specs.Digits.{IsDigit, add_digit, digits_number, longest_up_to, kept_len}
@@ -182,3 +182,38 @@ few_after whole fraction n w f within few =
     few_fit ds (All-take IsDigit (length whole + n) (whole ++ fraction) (All-append IsDigit whole fraction w f))
     (omega (arith, length-take (length whole + n) (whole ++ fraction))) in
     omega (arith, fits, digits_number-take-append whole fraction n)
+
+-- ---- the kept digits of a prefix
+
+-- a prefix keeps the digits that the whole list keeps of it
+kept_len-prefix : (xs ys : List ℕ) → kept_len xs ≡ min (length xs) (kept_len (xs ++ ys))
+kept_len-prefix xs ys =
+    let prefix = kept_len_is_longest xs in
+    let all = kept_len_is_longest (xs ++ ys) in
+    elim (cases_lt (kept_len xs) (length xs)) [
+      | inl less ↦
+          (let e : kept_len (xs ++ ys) ≡ kept_len xs =
+          kept_len-within_whole xs ys (kept_len xs) less prefix.fits
+          (prefix.longest (kept_len xs + 1) (omega arith) (omega arith)) in
+          omega arith)
+      | inr more ↦
+          (let full : digits_number (take (length xs) (xs ++ ys)) ≡ digits_number (take (kept_len xs) xs) =
+          ap digits_number (take-append-le (length xs) xs ys (omega arith))
+          ∙ ap (λ n. digits_number (take n xs)) (omega (arith, prefix.within)) in
+          let enough : length xs ≤ kept_len (xs ++ ys) =
+          elim (cases_lt (kept_len (xs ++ ys)) (length xs)) [
+            | inl below ↦
+                let more = all.longest (length xs) below (omega (arith, length-append xs ys)) in
+                absurd (omega (arith, full, prefix.fits, more))
+            | inr h ↦ h
+          ] in
+          omega (arith, prefix.within))
+    ]
+
+pub kept_len-take : (ds : List ℕ) (n : ℕ) → n ≤ length ds → kept_len (take n ds) ≡ min n (kept_len ds)
+kept_len-take ds n h =
+    let prefix : kept_len (take n ds) ≡ min (length (take n ds)) (kept_len (take n ds ++ drop n ds)) =
+    kept_len-prefix (take n ds) (drop n ds) in
+    let same : kept_len (take n ds ++ drop n ds) ≡ kept_len ds = ap kept_len (take-append-drop n ds) in
+    let counted : length (take n ds) ≡ n = length-take-le n ds h in
+    omega (arith, prefix, same, counted)

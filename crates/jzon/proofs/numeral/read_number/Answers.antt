@@ -2,8 +2,7 @@ use Rattle.jzon_base.proofs.Common.{◌≡◌, ◌∙◌, ap, refl, sym, subst, 
 use Rattle.jzon_base.specs.Decimal.{signed, parts}
 use Rattle.jzon_base.specs.Digits.{digits_number, number_read, read_exponent}
 use Rattle.jzon_base.specs.DigitLimits.{IsFirstTooMany}
-use Rattle.jzon_base.specs.LostDigits.{IsFirstLost, IsFirstOutOfRange, IsReadableNumber, IsFirstFault}
-use Rattle.jzon_base.specs.declared.digits.DigitFault.{DigitFault}
+use Rattle.jzon_base.specs.LostDigits.{IsFirst, leaves_range, IsFirstLost, number_digits, IsReadableNumber, IsFirstFault}
 use Rattle.jzon_base.specs.declared.digits.NumberFault.{NumberFault}
 use Rattle.jzon_base.specs.declared.digits.NumberFault.TheVariants.{TooMany, Lost, OutOfRange}
 use Rattle.jzon_tree.specs.Value.{number}
@@ -15,17 +14,17 @@ use Rattle.jzon.proofs.numeral.read_number.Goals.{in-Some, in-None+in_ok-mantiss
 use Rattle.jzon.proofs.numeral.read_number.Goals as goal
 
 -- the first digit at fault is reported
-reports_fault : (text w d ex : List ℕ) (start end : ℕ) (sign : ℕ → ℤ) (r : Reading) (fs : Frames) (negative : Bool)
+reports_fault : (text w d ex : List ℕ) (start end : ℕ) (b : Bool) (r : Reading) (fs : Frames) (negative : Bool)
     (f : NumberFault)
-    → ((g : DigitFault) → IsFirstTooMany w d g → HasTooMany w d g text start)
+    → ((i : ℕ) → IsFirstTooMany w d i → HasTooMany w d i text start)
     → ((i : ℕ) → IsFirstLost w d i → LosesDigit w d i text start)
-    → ((i : ℕ) → IsFirstOutOfRange w d sign ex i → (r : Reading) (fs : Frames) (negative : Bool) → AreKept r w d
+    → ((i : ℕ) → IsFirst (leaves_range w d (signed b)) ex i → (r : Reading) (fs : Frames) (negative : Bool) → AreKept r w d
     → r.exact ≡ true → Reports text (Inexact (end - length ex + i)) (after_first r fs negative text start))
-    → IsFirstFault r.exact w d sign ex f
+    → IsFirstFault r.exact (number_digits w d b ex) f
     → Reports text (number_stop start (length w) (end - length ex) f) (after_first r fs negative text start)
-reports_fault text w d ex start end sign r fs negative (TooMany g) many loses leaves h = many g h.0 r fs negative h.1
-reports_fault text w d ex start end sign r fs negative (Lost i) many loses leaves h = loses i h.1 r fs negative h.0
-reports_fault text w d ex start end sign r fs negative (OutOfRange i) many loses leaves h =
+reports_fault text w d ex start end b r fs negative (TooMany i) many loses leaves h = many i h.0 r fs negative h.1
+reports_fault text w d ex start end b r fs negative (Lost i) many loses leaves h = loses i h.1 r fs negative h.0
+reports_fault text w d ex start end b r fs negative (OutOfRange i) many loses leaves h =
     leaves i h.3 r fs negative (h.1, λ _. h.2) h.0
 
 pub returns-in_err-mantissa-in-None-clause-outcome : goal.returns-in_err-mantissa-in-None-clause-outcome
@@ -34,11 +33,11 @@ returns-in_err-mantissa-in-None-clause-outcome c r fs same =
     let text = c.args.source.now in
     let failed = err_from_is_err_and c.from_residual.result c.from_residual.ensures.1 in
     let stop = c.in_err-mantissa-in-None.ensures.stop in
-    let first = subst (λ (b : Bool). IsFirstFault b s.whole.now s.fraction.now (signed s.positive_exponent) s.exponent.now
-    stop.0) (sym same) stop.1 in
+    let first = subst (λ (exact : Bool). IsFirstFault exact
+    (number_digits s.whole.now s.fraction.now s.positive_exponent s.exponent.now) stop.0) (sym same) stop.1 in
     let k = c.spelling_at-spelling.ensures in
     let report = reports_fault text s.whole.now s.fraction.now s.exponent.now c.args.start s.end
-    (signed s.positive_exponent) r fs c.args.negative stop.0 k.too_many k.loses k.leaves first in
+    s.positive_exponent r fs c.args.negative stop.0 k.too_many k.loses k.leaves first in
     rw (failed.1, failed.2, stop.2) report
 
 -- its exponent is one of 16 bits
@@ -51,8 +50,8 @@ returns-clause-outcome c r fs same =
     let s = c.spelling_at-spelling.result in
     let text = c.args.source.now in
     let written = signed s.positive_exponent (digits_number s.exponent.now) in
-    let Q = λ (p : ℕ × ℤ). IsReadableNumber r.exact s.whole.now s.fraction.now (signed s.positive_exponent) s.exponent.now
-    × (parts (not c.args.negative) p.0 p.1 ≡ number_read (not c.args.negative) s.whole.now s.fraction.now written) in
+    let Q = λ (p : ℕ × ℤ). IsReadableNumber r.exact
+    (number_digits s.whole.now s.fraction.now s.positive_exponent s.exponent.now) × (parts (not c.args.negative) p.0 p.1 ≡ number_read (not c.args.negative) s.whole.now s.fraction.now written) in
     let q : Q c.match-parts.mantissa =
     elim c.match-parts.branch [
       | in-Some w ↦

@@ -1,6 +1,7 @@
 use Rattle.jzon_base.proofs.Common.{◌≡◌, ◌∙◌, ◌%◌, ◌^◌, ◌≤◌, ◌<◌, sym, ℕ, List, pos, ◌-ℤ◌, ◌+ℤ◌, arith, ints, clamps, length, eqb-true, All, to_z, of_z, w16}
 use Rattle.jzon_base.proofs.Common.{mod-eq_of_lt}
 use Rattle.jzon_base.specs.Digits.{IsDigit, digits_number}
+use Rattle.jzon_base.specs.LostDigits.{number_digits}
 use Rattle.jzon_base.proofs.Numbers.DigitPrefixes.{below_ten_to}
 use Rattle.jzon_base.proofs.Numbers.LostDigits.{FewDigits, few_digits, few_outcome, signed_none}
 use Rattle.jzon_base.proofs.digits.read_scanned.Goals as goal
@@ -11,8 +12,8 @@ returns-then-is_empty c =
     c.requires.fraction c.if-whole-fraction-gt-ALWAYS_KEPT.false in
     let empty : length c.args.exponent.now ≡ 0 = eqb-true _ 0 (sym c.is_empty.ensures ∙ c.if-is_empty.true) in
     let none = signed_none c.args.positive_exponent c.args.exponent.now empty in
-    let outcome = few_outcome c.args.positive_exponent c.args.whole.now c.args.fraction.now c.args.exponent.now
-    c.args.number (to_z w16 (of_z w16 (pos 0 -ℤ to_z w16 (length c.args.fraction.now)))) k
+    let outcome = few_outcome
+    (number_digits c.args.whole.now c.args.fraction.now c.args.positive_exponent c.args.exponent.now) c.args.number (to_z w16 (of_z w16 (pos 0 -ℤ to_z w16 (length c.args.fraction.now)))) k
     c.if-whole-fraction-gt-ALWAYS_KEPT.false c.requires.number
     (rw none (omega (arith, ints, clamps, c.if-whole-fraction-gt-ALWAYS_KEPT.false)))
     (omega (arith, ints, clamps, c.if-whole-fraction-gt-ALWAYS_KEPT.false)) in
@@ -49,8 +50,8 @@ returns-then-positive_exponent c =
     let k = exact_exponent c.args.exponent.now c.args.written c.requires.exponent c.if-exponent-gt-NEVER_CLAMPED.false
     c.requires.written in
     let few = c.if-whole-fraction-gt-ALWAYS_KEPT.false in
-    let outcome = few_outcome c.args.positive_exponent c.args.whole.now c.args.fraction.now c.args.exponent.now
-    c.args.number
+    let outcome = few_outcome
+    (number_digits c.args.whole.now c.args.fraction.now c.args.positive_exponent c.args.exponent.now) c.args.number
     (to_z w16 (of_z w16 (to_z w16 (of_z w16 (pos 0 -ℤ to_z w16 (length c.args.fraction.now))) +ℤ to_z w16 c.args.written)))
     (few_digits c.args.whole.now c.args.fraction.now c.requires.whole c.requires.fraction few) few c.requires.number
     (rw c.if-positive_exponent.true (omega (arith, ints, clamps, few, k.0, k.1)))
@@ -62,8 +63,8 @@ returns-else-positive_exponent c =
     let k = exact_exponent c.args.exponent.now c.args.written c.requires.exponent c.if-exponent-gt-NEVER_CLAMPED.false
     c.requires.written in
     let few = c.if-whole-fraction-gt-ALWAYS_KEPT.false in
-    let outcome = few_outcome c.args.positive_exponent c.args.whole.now c.args.fraction.now c.args.exponent.now
-    c.args.number
+    let outcome = few_outcome
+    (number_digits c.args.whole.now c.args.fraction.now c.args.positive_exponent c.args.exponent.now) c.args.number
     (to_z w16 (of_z w16 (to_z w16 (of_z w16 (pos 0 -ℤ to_z w16 (length c.args.fraction.now))) -ℤ to_z w16 c.args.written)))
     (few_digits c.args.whole.now c.args.fraction.now c.requires.whole c.requires.fraction few) few c.requires.number
     (rw c.if-positive_exponent.false (omega (arith, ints, clamps, few, k.0, k.1)))
