@@ -1,63 +1,17 @@
 //! A text and the offset up to which it is read, with the moves past brackets, commas and colons
 //! and the whitespace after them.
 
-ghost use Rattle.std.specs.Prelude.{◌≡◌, ◌≢◌, ◌<◌, ◌≤◌, ◌+◌, length, chars, drop, false, slice_index, Err, IfOk, None, Some, if◌then◌else◌, MatchOption};
+ghost use Rattle.std.specs.Prelude.{◌≡◌, ◌≢◌, ◌<◌, ◌≤◌, ◌+◌, length, chars, drop, false, slice_index, Err, IfOk, None, if◌then◌else◌};
 ghost use Rattle.std.specs.Str.{IsCharBoundary, IsUtf8};
-ghost use Rattle.jzon_tree.specs.View.{view};
 ghost use Rattle.jzon_tree.specs.Writing.{is_whitespace};
 ghost use Rattle.jzon.specs.Private.Brackets.{opener, closer, empty_container, after_opener};
 ghost use Rattle.jzon.specs.Private.Machine.{Frames, frames_depth, value_mark, before, after_value, from, fault_here, Reports};
-ghost use Rattle.jzon_base.specs.Tokens.{begin_array, begin_object};
 
 use crate::bytes_at::byte_at;
-use crate::fault::{Result, Stop, fault_at, too_deep};
+use crate::container_kind::ContainerKind;
 use crate::reading::Reading;
+use crate::stop::{Result, Stop, fault_at, too_deep};
 use crate::whitespace::skip_whitespace;
-use jzon_tree::object::Object;
-use jzon_tree::value::JsonValue;
-use std::alloc::Global;
-
-/// A kind of container.
-#[derive(Clone, Copy)]
-pub(crate) enum ContainerKind {
-    Array,
-    Object,
-}
-
-impl ContainerKind {
-    /// The kind of container whose opening bracket this byte is, if it is one.
-    #[inline(always)]
-    pub(crate) fn opened_by(first: u8) -> Option<ContainerKind>
-        ensures { MatchOption result ((first ≢ begin_array) × (first ≢ begin_object))
-            (λ kind. first ≡ opener kind) }
-    {
-        match first {
-            b'[' => Some(ContainerKind::Array),
-            b'{' => Some(ContainerKind::Object),
-            _ => None,
-        }
-    }
-
-    #[inline(always)]
-    pub(crate) fn empty(self, alloc: Global) -> JsonValue
-        ensures { view result ≡ empty_container self }
-    {
-        match self {
-            ContainerKind::Array => JsonValue::Array(Vec::new(alloc)),
-            ContainerKind::Object => JsonValue::Object(Object::new(alloc)),
-        }
-    }
-
-    #[inline(always)]
-    fn closer(self) -> u8
-        ensures { result ≡ closer self }
-    {
-        match self {
-            ContainerKind::Array => b']',
-            ContainerKind::Object => b'}',
-        }
-    }
-}
 
 /// A text, the offset up to which it is read, and how it is read. No whitespace is at the offset.
 #[derive(Clone, Copy)]
@@ -163,7 +117,7 @@ impl<'a> Cursor<'a> {
     /// Most texts have no whitespace there, so it is skipped only if neither a comma nor a closing
     /// bracket is at `end`.
     #[inline(always)]
-    pub(crate) fn container_ends(&mut self, end: usize, kind: ContainerKind) -> Result<bool>
+    pub(crate) fn end_item(&mut self, end: usize, kind: ContainerKind) -> Result<bool>
         requires boundary { IsCharBoundary self.old.source.now end }
         requires within { self.old.index ≤ end }
         ensures { EndsItem self.old end kind result self.new }
@@ -184,7 +138,7 @@ impl<'a> Cursor<'a> {
     /// Moves past the colon after the key that ends at `end`; fails if none follows. Whitespace
     /// before the colon is skipped only if no colon is at `end`.
     #[inline(always)]
-    pub(crate) fn colon_at(&mut self, end: usize) -> Result<()>
+    pub(crate) fn pass_colon(&mut self, end: usize) -> Result<()>
         requires boundary { IsCharBoundary self.old.source.now end }
         requires further { self.old.index < end }
         ensures { EndsKey self.old end result self.new }

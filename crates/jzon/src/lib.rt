@@ -4,9 +4,9 @@
 #![tactic(auto)]
 
 mod bytes_at;
+mod container_kind;
 mod conversions;
 mod cursor;
-mod fault;
 pub mod laws;
 mod located;
 mod macros;
@@ -15,6 +15,7 @@ mod parser;
 mod primitive;
 mod reading;
 mod stacks;
+mod stop;
 mod string;
 mod target;
 mod whitespace;

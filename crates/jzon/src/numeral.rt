@@ -9,7 +9,7 @@ ghost use Rattle.jzon_base.specs.Decimal.{signed};
 ghost use Rattle.jzon_base.specs.Digits.{IsDigit, add_digit, digits_number, number_read};
 ghost use Rattle.jzon_base.specs.DigitLimits.{IsFirstTooMany};
 ghost use Rattle.jzon_base.specs.LostDigits.{HoldsOfNone, IsFirst, leaves_range, number_digits, mantissa_and_exponent, IsReadableNumber, IsFirstFault, IsFirstLost};
-ghost use Rattle.jzon.specs.declared.fault.Stop.TheVariants.{Inexact};
+ghost use Rattle.jzon.specs.declared.stop.Stop.TheVariants.{Inexact};
 ghost use Rattle.jzon.specs.Private.Stops.{stop_offset};
 ghost use Rattle.jzon_base.specs.declared.digits.NumberFault.{NumberFault};
 ghost use Rattle.jzon_tree.specs.Value.{number};
@@ -21,17 +21,16 @@ ghost use Rattle.jzon.specs.Private.Machine.{Frames, numeral, numeral_after_firs
 ghost use Rattle.jzon.specs.Private.Numerals.{after_first, AreKept, LeadsTo, MissesDigit, HasTooMany, LosesDigit, digit_offset, number_stop};
 
 use crate::bytes_at::{byte_at, has_byte};
-use crate::fault::{Result, Stop, fault_at};
-use crate::reading::Reading;
+use crate::stop::{Result, Stop, fault_at};
 use jzon_base::digits::{NumberFault, read_digits, read_scanned, scan};
 use jzon_base::number::Number;
 
 /// The number whose first digit is at `start`, after a minus if it is `negative`, and the offset
-/// after it. Fails if it has too many digits or, in an exact reading, isn't exact, and else if a
-/// digit is missing.
+/// after it. Fails if it has too many digits or, if only `exact` numbers are read, isn't
+/// exact, and else if a digit is missing.
 #[inline(always)]
 pub(crate) fn read_number(
-    reading: &Reading,
+    exact: bool,
     source: &str,
     start: usize,
     negative: bool,
@@ -40,7 +39,7 @@ pub(crate) fn read_number(
     requires digit { IsTrue (is_ascii_digit (slice_index source.now start)) }
     ensures end { IfOk result
         (λ r. (start < r.1) × (r.1 ≤ length source.now) × IsCharBoundary source.now r.1) }
-    ensures outcome { (r : Limits) (fs : Frames) → r.exact ≡ reading.now.exact →
+    ensures outcome { (r : Limits) (fs : Frames) → r.exact ≡ exact →
         Leads r source.now (numeral_after_first fs negative (slice_index source.now start))
         (start + 1) result
         (λ v. after_value fs (number v)) }
@@ -59,7 +58,7 @@ pub(crate) fn read_number(
     let (mantissa, exponent) = match parts {
         Some(parts) => parts,
         None => read_rare(
-            reading,
+            exact,
             start,
             spelling.whole,
             spelling.fraction,
@@ -79,7 +78,7 @@ pub(crate) fn read_number(
 /// `start`, and its last is before `end`.
 #[inline(always)]
 fn read_rare(
-    reading: &Reading,
+    exact: bool,
     start: usize,
     whole: &[u8],
     fraction: &[u8],
@@ -93,19 +92,13 @@ fn read_rare(
     requires within { start + length whole.now + length fraction.now < 2 ^ 63 }
     requires before { length exponent.now ≤ end }
     ensures number { OkIff result
-        (IsReadableNumber reading.now.exact (number_digits whole.now fraction.now positive_exponent exponent.now))
+        (IsReadableNumber exact (number_digits whole.now fraction.now positive_exponent exponent.now))
         (mantissa_and_exponent (number_digits whole.now fraction.now positive_exponent exponent.now)) }
     ensures stop { IfErr result (λ stop. (f : NumberFault)
-        × IsFirstFault reading.now.exact (number_digits whole.now fraction.now positive_exponent exponent.now) f
+        × IsFirstFault exact (number_digits whole.now fraction.now positive_exponent exponent.now) f
         × (stop ≡ number_stop start (length whole.now) (end - length exponent.now) f)) }
 {
-    let parts = read_digits(
-        whole,
-        fraction,
-        positive_exponent,
-        exponent,
-        reading.exact_numbers(),
-    );
+    let parts = read_digits(whole, fraction, positive_exponent, exponent, exact);
     match parts {
         Ok(parts) => Ok(parts),
         Err(fault) => Err(stop_at(fault, start, whole.len(), end - exponent.len())),

@@ -13,12 +13,13 @@ ghost use Rattle.jzon.specs.Located.{IsLocated};
 ghost use Rattle.jzon.specs.Reading.{usual};
 ghost use Rattle.jzon_base.specs.Tokens.{end_array};
 
-use crate::cursor::{ContainerKind, Cursor};
-use crate::fault::{self, Stop};
+use crate::container_kind::ContainerKind;
+use crate::cursor::Cursor;
 use crate::located::LocatedError;
 use crate::primitive::put_primitive;
 use crate::reading::Reading;
 use crate::stacks::Stacks;
+use crate::stop::{self, Stop};
 use crate::string::read_string;
 use jzon_base::error::{Error, Result};
 use jzon_tree::value::JsonValue;
@@ -92,7 +93,7 @@ pub fn parse_located(
 }
 
 /// Parses a text, or stops at its first error, whose line and column aren't counted yet.
-fn read(alloc: Global, source: &str, reading: &Reading) -> fault::Result<JsonValue>
+fn read(alloc: Global, source: &str, reading: &Reading) -> stop::Result<JsonValue>
     ensures outcome { Reads source.now result (from reading.now source.now (before no_frames) 0) }
     ensures memory { result ≡ Err Stop.Memory → TakesMemory (chars source.now) }
 {
@@ -100,17 +101,10 @@ fn read(alloc: Global, source: &str, reading: &Reading) -> fault::Result<JsonVal
     let first = cursor.peek();
     let Some(kind) = ContainerKind::opened_by(first) else {
         let (source, start) = (cursor.source, cursor.index);
+        let exact = cursor.reading.exact_numbers();
         let mut buffer = String::new(alloc);
         let mut value = JsonValue::Null;
-        let end = put_primitive(
-            reading,
-            alloc,
-            source,
-            start,
-            first,
-            &mut buffer,
-            &mut value,
-        )?;
+        let end = put_primitive(exact, alloc, source, start, first, &mut buffer, &mut value)?;
         cursor.go_to(end);
         return expect_end(&cursor, value);
     };
@@ -123,7 +117,7 @@ fn read(alloc: Global, source: &str, reading: &Reading) -> fault::Result<JsonVal
         stacks,
         buffer: String::new(alloc),
     };
-    parser.read_to_end(reading)
+    parser.read_to_end()
 }
 
 /// What was read of a value in a container.
@@ -138,7 +132,7 @@ enum Next {
 }
 
 /// Returns the value of the text if the text ends at the cursor; else the stop is there.
-fn expect_end(cursor: &Cursor<'_>, value: JsonValue) -> fault::Result<JsonValue>
+fn expect_end(cursor: &Cursor<'_>, value: JsonValue) -> stop::Result<JsonValue>
     ensures memory { result ≢ Err Stop.Memory }
     ensures outcome { Reads cursor.now.source.now result
         (left cursor.now (after_value no_frames (view value))) }
@@ -160,18 +154,16 @@ struct Parser<'a> {
 }
 
 impl<'a> Parser<'a> {
-    /// Reads the rest of the text: all that the containers hold, and the end. `reading` is the
-    /// cursor's, which isn't lent while other fields are.
+    /// Reads the rest of the text: all that the containers hold, and the end.
     #[inline(never)]
-    fn read_to_end(&mut self, reading: &Reading) -> fault::Result<JsonValue>
+    fn read_to_end(&mut self) -> stop::Result<JsonValue>
         requires before { IsBeforeItem self.old.cursor self.old.stacks }
         requires strict { self.old.stacks.strict ≡ self.old.cursor.reading.strict }
-        requires reading { self.old.cursor.reading ≡ reading.now }
         ensures { Reads self.old.cursor.source.now result
             (left self.old.cursor (before_item self.old.stacks)) }
     {
         loop {
-            if let Some(kind) = self.read_items(reading)? {
+            if let Some(kind) = self.read_items()? {
                 self.stacks.open(kind)?;
             } else if let Some(value) = self.end_containers()? {
                 return expect_end(&self.cursor, value);
@@ -181,22 +173,21 @@ impl<'a> Parser<'a> {
 
     /// Reads elements or entries of the innermost container: to its end, or to a container in it
     /// that isn't empty, of which it reads the opening bracket. Returns the kind of this container,
-    /// or `None` at the end. `reading` is the cursor's.
+    /// or `None` at the end.
     #[inline(always)]
-    fn read_items(&mut self, reading: &Reading) -> fault::Result<Option<ContainerKind>>
+    fn read_items(&mut self) -> stop::Result<Option<ContainerKind>>
         requires before { IsBeforeItem self.old.cursor self.old.stacks }
         requires strict { self.old.stacks.strict ≡ self.old.cursor.reading.strict }
-        requires reading { self.old.cursor.reading ≡ reading.now }
         ensures { ReadsItems self.old.cursor self.old.stacks result self.new.cursor self.new.stacks }
     {
         let container = self.stacks.innermost_kind();
         loop {
             // One call of `read_value` for each kind: each is compiled with its closing bracket.
             let next = match container {
-                ContainerKind::Array => self.read_value(reading, ContainerKind::Array)?,
+                ContainerKind::Array => self.read_value(ContainerKind::Array)?,
                 ContainerKind::Object => {
                     self.read_key()?;
-                    self.read_value(reading, ContainerKind::Object)?
+                    self.read_value(ContainerKind::Object)?
                 }
             };
             match next {
@@ -210,7 +201,7 @@ impl<'a> Parser<'a> {
     /// Reads the next key of the innermost container, and the colon. A repeated key of a strict
     /// reading is rejected at its opening quote.
     #[inline(always)]
-    fn read_key(&mut self) -> fault::Result<()>
+    fn read_key(&mut self) -> stop::Result<()>
         requires object { self.old.stacks.innermost.kind ≡ ContainerKind.Object }
         requires before { IsBeforeItem self.old.cursor self.old.stacks }
         requires strict { self.old.stacks.strict ≡ self.old.cursor.reading.strict }
@@ -229,15 +220,14 @@ impl<'a> Parser<'a> {
         if self.stacks.push_key(name, wide)? {
             return Err(Stop::Duplicate(start));
         }
-        self.cursor.colon_at(spelled.end)
+        self.cursor.pass_colon(spelled.end)
     }
 
     /// Reads the next value of the innermost container, whose kind is `container`, and the comma or
     /// the closing bracket after it. Of a container that isn't empty it reads only the opening
     /// bracket.
     #[inline(always)]
-    fn read_value(&mut self, reading: &Reading, container: ContainerKind) -> fault::Result<Next>
-        requires reading { self.old.cursor.reading ≡ reading.now }
+    fn read_value(&mut self, container: ContainerKind) -> stop::Result<Next>
         requires kind { self.old.stacks.innermost.kind ≡ container }
         requires awaits { AwaitsValue container self.old.stacks.innermost }
         requires room { length self.old.stacks.around < self.old.cursor.reading.depth }
@@ -256,17 +246,18 @@ impl<'a> Parser<'a> {
             }
             self.stacks.push_empty(opened)?;
             let here = self.cursor.index;
-            if self.cursor.container_ends(here, container)? {
+            if self.cursor.end_item(here, container)? {
                 return Ok(Next::End);
             }
             return Ok(Next::Item);
         }
         let source = self.cursor.source;
         let start = self.cursor.index;
+        let exact = self.cursor.reading.exact_numbers();
         let end = self
             .stacks
-            .push_primitive(reading, source, start, first, &mut self.buffer)?;
-        if self.cursor.container_ends(end, container)? {
+            .push_primitive(exact, source, start, first, &mut self.buffer)?;
+        if self.cursor.end_item(end, container)? {
             return Ok(Next::End);
         }
         Ok(Next::Item)
@@ -277,7 +268,7 @@ impl<'a> Parser<'a> {
     /// Returns `None` after a comma: the next element or key follows. If the outermost container
     /// ended, its value is returned.
     #[inline(always)]
-    fn end_containers(&mut self) -> fault::Result<Option<JsonValue>>
+    fn end_containers(&mut self) -> stop::Result<Option<JsonValue>>
         requires even { HasAllValues self.old.stacks.innermost.kind self.old.stacks.innermost }
         requires room { length self.old.stacks.around < self.old.cursor.reading.depth }
         ensures strict { IfOk result (λ v. v ≡ None
@@ -292,7 +283,7 @@ impl<'a> Parser<'a> {
             }
             let container = self.stacks.innermost_kind();
             let here = self.cursor.index;
-            if !self.cursor.container_ends(here, container)? {
+            if !self.cursor.end_item(here, container)? {
                 return Ok(None);
             }
         }

@@ -13,9 +13,8 @@ ghost use Rattle.jzon.specs.Reading.{Reading as Limits};
 ghost use Rattle.jzon_base.specs.Tokens.{begin_array, begin_object, quotation_mark};
 
 use crate::bytes_at::{byte_at, has_byte, has_four};
-use crate::fault::{Result, Stop, fault_at};
 use crate::numeral::read_number;
-use crate::reading::Reading;
+use crate::stop::{Result, Stop, fault_at};
 use crate::string::{put_string_value, read_string};
 use crate::target::Target;
 use jzon_tree::value::JsonValue;
@@ -26,7 +25,7 @@ use std::alloc::Global;
 /// unspecified afterwards.
 #[inline(always)]
 pub(crate) fn put_primitive<T: Target>(
-    reading: &Reading,
+    exact: bool,
     alloc: Global,
     source: &str,
     start: usize,
@@ -42,17 +41,17 @@ pub(crate) fn put_primitive<T: Target>(
     ensures end { IfOk result (λ end. (start < end) × IsCharBoundary source.now end) }
     ensures memory { result ≡ Err Stop.Memory → first ≡ quotation_mark }
     ensures outcome { Puts (T.takes target.old) target.old target.new result source.now start before
-        (λ r fs. MayBegin r fs source.now start reading.now.exact) }
+        (λ r fs. MayBegin r fs source.now start exact) }
 {
     if first.is_ascii_digit() {
-        return put_magnitude(reading, source, start, false, target);
+        return put_magnitude(exact, source, start, false, target);
     }
     match first {
         b'-' => {
             if !byte_at(source, start + 1).is_ascii_digit() {
                 return Err(fault_at(source, start + 1));
             }
-            put_magnitude(reading, source, start + 1, true, target)
+            put_magnitude(exact, source, start + 1, true, target)
         }
         b'"' => {
             let spelled = read_string(source, start + 1, buffer)?;
@@ -69,7 +68,7 @@ pub(crate) fn put_primitive<T: Target>(
 /// offset after it.
 #[inline(always)]
 fn put_magnitude<T: Target>(
-    reading: &Reading,
+    exact: bool,
     source: &str,
     start: usize,
     negative: bool,
@@ -82,9 +81,9 @@ fn put_magnitude<T: Target>(
     ensures memory { result ≢ Err Stop.Memory }
     ensures outcome { Puts (T.takes target.old) target.old target.new result source.now (start + 1)
         (λ fs. numeral_after_first fs negative (slice_index source.now start))
-        (λ r fs. r.exact ≡ reading.now.exact) }
+        (λ r fs. r.exact ≡ exact) }
 {
-    let (number, end) = read_number(reading, source, start, negative)?;
+    let (number, end) = read_number(exact, source, start, negative)?;
     target.put(JsonValue::Number(number));
     Ok(end)
 }
@@ -104,13 +103,13 @@ fn put_literal<T: Target>(source: &str, start: usize, first: u8, target: &mut T)
         (λ r fs. value_mark r fs ≡ None) }
 {
     let (value, letters) = literal(first);
-    let prefix = start + usize::from(first == b'f');
-    if has_four(source, prefix, letters) {
+    let letters_at = start + usize::from(first == b'f');
+    if has_four(source, letters_at, letters) {
         target.put(value);
-        return Ok(prefix + 4);
+        return Ok(letters_at + 4);
     }
     // One of the letters is wrong, so this call fails: it finds which one.
-    let end = read_letters(source, prefix, &letters)?;
+    let end = read_letters(source, letters_at, &letters)?;
     target.put(value);
     Ok(end)
 }

@@ -4,13 +4,12 @@ ghost use Rattle.std.specs.Prelude.{◌≡◌, ◌≤◌, ◌↔◌, IsTrue, tru
 ghost use Rattle.jzon_tree.specs.View.{view};
 ghost use Rattle.jzon.specs.Answer.{IsReadable};
 
-use jzon_tree::codegen::is_readable;
-use jzon_tree::value::JsonValue;
+use jzon_tree::value::{JsonValue, is_readable};
 use std::marker::Model;
 
-/// How `parse_as` reads a text: whether strictly, and how many containers that aren't empty may be
-/// open at once. A strict reading accepts only the whitespace of RFC 8259, and rejects a repeated
-/// key. `parse` isn't strict, and its depth is 512.
+/// How `parse_as` reads a text: whether strictly, how many containers that aren't empty may be open
+/// at once, and whether numbers must be exact. A strict reading accepts only the whitespace of
+/// RFC 8259, and rejects a repeated key.
 #[derive(Clone, Copy, Debug)]
 pub struct Reading {
     strict: bool,
@@ -36,34 +35,42 @@ impl Model for Reading {
 const MAX_DEPTH: u16 = 512;
 
 impl Reading {
-    /// The reading of `parse`: not strict, of depth 512.
+    /// The reading of `parse`: not strict, of depth 512, not exact.
     pub const USUAL: Reading = Reading {
         strict: false,
         depth: MAX_DEPTH,
         exact: false,
     };
 
-    /// The strict reading of depth 512.
+    /// The strict reading of depth 512, not exact.
     pub const STRICT: Reading = Reading {
         strict: true,
         depth: MAX_DEPTH,
         exact: false,
     };
 
-    /// The reading with these settings; `None` if `depth` is above 512. At depth 0 a text may be a
-    /// primitive or an empty container; at depth 1 there may be primitives and empty containers in
-    /// a container.
+    /// The reading with these settings, not exact; `None` if `depth` is above 512. At depth 0 a text
+    /// may be a primitive or an empty container; at depth 1 there may be primitives and empty
+    /// containers in a container.
     pub fn new(strict: bool, depth: u16) -> Option<Reading>
         ensures { SomeIff result (depth ≤ 512) (record { strict = strict; depth = depth; exact = false }) }
+    {
+        let reading = Reading {
+            strict,
+            ..Reading::USUAL
+        };
+        reading.with_depth(depth)
+    }
+
+    /// This reading with another depth; `None` if `depth` is above 512. For example, a shallow exact
+    /// reading is `Reading::USUAL.with_exact_numbers().with_depth(16)`.
+    pub fn with_depth(self, depth: u16) -> Option<Reading>
+        ensures { SomeIff result (depth ≤ 512) (record self { depth = depth }) }
     {
         if depth > MAX_DEPTH {
             return None;
         }
-        Some(Reading {
-            strict,
-            depth,
-            exact: false,
-        })
+        Some(Reading { depth, ..self })
     }
 
     /// This reading, but it rejects a number that would be read with another value than its digits
@@ -101,8 +108,9 @@ impl Reading {
     }
 
     /// Whether the value contains no NaN and nests no deeper than this reading allows. If so, this
-    /// reading reads its compact and pretty texts as values equal to it (`laws::reads_back`). It may go
-    /// over the whole value, and allocates nothing.
+    /// reading reads its compact and pretty texts as values equal to it (`laws::reads_back`).
+    ///
+    /// Goes over the value up to a NaN or a container that is too deep, and allocates nothing.
     pub fn admits(&self, value: &JsonValue) -> bool
         ensures { IsTrue result ↔ IsReadable self.now (view value.now) }
     {

@@ -16,10 +16,9 @@ ghost use Rattle.jzon.specs.Private.Targets.{MayBegin, Puts};
 ghost use Rattle.jzon_base.specs.Tokens.{begin_array, begin_object};
 ghost use Rattle.std.specs.Str.{IsCharBoundary};
 
-use crate::cursor::ContainerKind;
-use crate::fault;
+use crate::container_kind::ContainerKind;
 use crate::primitive::put_primitive;
-use crate::reading::Reading;
+use crate::stop;
 use jzon_base::key::Key;
 use jzon_base::keys::KnownKeys;
 use jzon_tree::object::Object;
@@ -269,23 +268,23 @@ impl Stacks {
     #[inline(always)]
     pub(crate) fn push_primitive(
         &mut self,
-        reading: &Reading,
+        exact: bool,
         source: &str,
         start: usize,
         first: u8,
         buffer: &mut String,
-    ) -> fault::Result<usize>
+    ) -> stop::Result<usize>
         requires boundary { IsCharBoundary source.now start }
         requires first { first ≡ slice_index source.now start }
         requires no_array { first ≢ begin_array }
         requires no_object { first ≢ begin_object }
         ensures end { IfOk result (λ end. (start < end) × IsCharBoundary source.now end) }
         ensures outcome { Puts (λ v new. new ≡ value_added self.old v) self.old self.new result
-            source.now start before (λ r fs. MayBegin r fs source.now start reading.now.exact) }
+            source.now start before (λ r fs. MayBegin r fs source.now start exact) }
     {
         reserve_value(self.alloc, &mut self.values)?;
         put_primitive(
-            reading,
+            exact,
             self.alloc,
             source,
             start,
@@ -331,7 +330,7 @@ impl Stacks {
             unreachable!()
         };
         let keys = &self.keys[self.innermost.first_key..];
-        let is_known = known.has_or_adds(self.alloc, keys, name)?;
+        let is_known = known.has_or_notes(self.alloc, keys, name)?;
         if is_known {
             return Ok(true);
         }

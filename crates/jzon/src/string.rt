@@ -11,11 +11,11 @@ ghost use Rattle.jzon.specs.Reading.{Reading};
 ghost use Rattle.jzon.specs.Grammar.{is_high, is_low, code_unit};
 ghost use Rattle.jzon.specs.Meaning.{pair_char};
 ghost use Rattle.jzon.specs.Private.Quote.{EndsAtQuote, ReadsCharacter, ReadsUnit, ReadsSecondUnit};
-ghost use Rattle.jzon.specs.declared.fault.Stop.TheVariants.{Memory};
+ghost use Rattle.jzon.specs.declared.stop.Stop.TheVariants.{Memory};
 ghost use Rattle.jzon.specs.Private.Machine.{Role, string, between, after_backslash, code, second, from, from_closed, Reports};
 
 use crate::bytes_at::{byte_at, has_byte};
-use crate::fault::{Result, Stop, fault_at};
+use crate::stop::{Result, Stop, fault_at};
 use crate::target::Target;
 use jzon_base::short::{MAX_LEN, Short};
 use jzon_base::util::escapes::{hex_value, meant_by};

@@ -351,7 +351,7 @@ fn push_new(
     requires { Knows keys.old.items known.old }
     ensures { OnOk result (Knows keys.new.items known.new) }
 {
-    let is_known = known.has_or_adds(alloc, keys.as_slice(), name)?;
+    let is_known = known.has_or_notes(alloc, keys.as_slice(), name)?;
     if !is_known {
         keys.push(Key::new(alloc, name)?)?;
     }

@@ -25,6 +25,10 @@ fn has_at_most_512_open(rt: HostRuntime) {
         let found = reading.map(|reading| (reading.strict(), reading.depth()));
         let is_right = found.is_none_or(|found| found == (*strict, *depth));
         expect(&rt, "its strictness and depth", is_right);
+        let exact = Reading::STRICT.with_exact_numbers().with_depth(*depth);
+        let found = exact.map(|exact| (exact.strict(), exact.depth(), exact.exact_numbers()));
+        let wanted = is_some.then_some((true, *depth, true));
+        expect_eq(&rt, "another depth", found, wanted);
     }
     for (reading, strict) in [(Reading::USUAL, false), (Reading::STRICT, true)] {
         let found = (reading.strict(), reading.depth());
@@ -100,7 +104,9 @@ const ADMITTED: &[(u16, &str, bool)] = &[
     (0, "[]", true),
     (0, "[1]", false),
     (1, "[[]]", true),
+    (0, "[[1]]", false),
     (1, "[[1]]", false),
+    (1, "[1,[],[2],[]]", false),
     (1, "{\"a\":[],\"b\":{\"c\":1}}", false),
     (2, "[1,{\"a\":2}]", true),
 ];

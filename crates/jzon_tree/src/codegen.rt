@@ -24,8 +24,6 @@ mod pieces;
 mod strings;
 mod text_generator;
 
-#[doc(hidden)]
-pub use crate::value::inspect::is_readable;
 pub use driver::{write_json, write_object};
 pub use generator::Generator;
 pub use layout::{Compact, Layout, Pretty};

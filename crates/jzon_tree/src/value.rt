@@ -4,10 +4,13 @@
 
 pub(crate) mod inspect;
 mod print;
+mod readable;
 
 use crate::object::Object;
 use jzon_base::number::Number;
 use jzon_base::short::Short;
+#[doc(hidden)]
+pub use readable::is_readable;
 
 /// A JSON value (RFC 8259, section 3).
 ///

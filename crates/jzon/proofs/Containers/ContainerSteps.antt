@@ -12,8 +12,8 @@ use Rattle.jzon.specs.Private.Machine.{EntriesSoFar, Frames, no_frames, frames_d
 use Rattle.jzon.specs.Private.Machine.{between, before_key, string, after_key, after_value, allows_whitespace, go, bad}
 use Rattle.jzon.specs.Private.Machine.{bad_at, value_mark, key_mark, move_before, move_before_key, move_after_key}
 use Rattle.jzon.specs.Private.Machine.{move_empty_object, move_after_value, refused, State, from, left_at, last, move}
-use Rattle.jzon.specs.declared.cursor.ContainerKind.{ContainerKind}
-use Rattle.jzon.specs.declared.cursor.ContainerKind.TheVariants.{Array, Object}
+use Rattle.jzon.specs.declared.container_kind.ContainerKind.{ContainerKind}
+use Rattle.jzon.specs.declared.container_kind.ContainerKind.TheVariants.{Array, Object}
 use Rattle.jzon.proofs.Texts.ClassesOfCharacters.{class-says, class-char, no_space}
 use Rattle.jzon.proofs.Texts.Runs.{stays}
 use Rattle.jzon.proofs.Texts.AsciiRuns.{Skips, space_is_ascii, wide_is_no_space}

@@ -2,8 +2,8 @@
 use Rattle.jzon_base.proofs.Common.{◌≡◌, ◌≢◌, ◌∙◌, ℕ, ◌+◌, ◌<◌, ◌≤◌, List, [], length, drop, get_or, refl, arith, None}
 use Rattle.jzon_base.proofs.Common.{Some, ap, true, lit<, chars}
 use Rattle.std.proofs.lemmas.Bool.{le-leb}
-use Rattle.jzon.specs.declared.fault.Stop.{Stop}
-use Rattle.jzon.specs.declared.fault.Stop.TheVariants.{Limit}
+use Rattle.jzon.specs.declared.stop.Stop.{Stop}
+use Rattle.jzon.specs.declared.stop.Stop.TheVariants.{Limit}
 use Rattle.jzon_tree.specs.Value.{Value, array, no_values, object, no_pairs}
 use Rattle.jzon.specs.Private.Brackets.{opener, closer, empty_container, innermost_kind, after_opener, after_comma}
 use Rattle.jzon.specs.Private.Brackets.{after_closer}
@@ -15,8 +15,8 @@ use Rattle.jzon.specs.Private.Machine.{before_key, string, after_key, after_valu
 use Rattle.jzon.specs.Private.Machine.{from, from_closed, left_at, fault_here, Reports, ReportsUnlessMemory, State, Move, go}
 use Rattle.jzon.specs.Private.Machine.{move, allows_whitespace, move_before, move_before_key, move_after_key}
 use Rattle.jzon.specs.Private.Machine.{move_after_value}
-use Rattle.jzon.specs.declared.cursor.ContainerKind.{ContainerKind}
-use Rattle.jzon.specs.declared.cursor.ContainerKind.TheVariants.{Array, Object}
+use Rattle.jzon.specs.declared.container_kind.ContainerKind.{ContainerKind}
+use Rattle.jzon.specs.declared.container_kind.ContainerKind.TheVariants.{Array, Object}
 use Rattle.jzon.specs.declared.cursor.Cursor.{Cursor}
 pub use Rattle.jzon.proofs.Containers.ContainerSteps.{closer_bounds}
 use Rattle.jzon.proofs.Containers.ContainerSteps.{same_closer, deep_item, no_item, open_key, no_key, no_colon}

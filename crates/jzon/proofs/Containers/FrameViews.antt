@@ -15,8 +15,8 @@ use Rattle.jzon.specs.Private.Machine.{EntriesSoFar, Frames, array_frame, frames
 use Rattle.jzon.specs.Private.Machine.{before, before_key, after_value, value_mark, key_mark}
 use Rattle.jzon.specs.Private.OpenContainers.{Container, entries_so_far, last_key, open_as, frames_in, whole_as}
 use Rattle.jzon.specs.Private.OpenContainers.{before_item_as, AwaitsValue, HasAllValues, with_value}
-use Rattle.jzon.specs.declared.cursor.ContainerKind.{ContainerKind}
-use Rattle.jzon.specs.declared.cursor.ContainerKind.TheVariants.{Array, Object}
+use Rattle.jzon.specs.declared.container_kind.ContainerKind.{ContainerKind}
+use Rattle.jzon.specs.declared.container_kind.ContainerKind.TheVariants.{Array, Object}
 
 -- ---- the depth
 

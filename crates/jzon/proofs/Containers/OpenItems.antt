@@ -3,7 +3,7 @@ use Rattle.jzon_base.proofs.Common.{◌≡◌, ◌≢◌, ◌∙◌, ◌+◌, �
 use Rattle.jzon_base.proofs.Common.{sym, ap, subst, arith, None, Some, Result, Ok, Err, fold, bytes_eq}
 use Rattle.jzon_base.proofs.Common.{length-append, zip}
 use Rattle.jzon_base.specs.PairList.{put, put_each}
-use Rattle.jzon.specs.declared.fault.Stop.{Stop}
+use Rattle.jzon.specs.declared.stop.Stop.{Stop}
 use Rattle.jzon_tree.specs.View.{view, viewed}
 use Rattle.jzon_tree.specs.declared.value.JsonValue.{JsonValue}
 use Rattle.jzon.specs.Private.Brackets.{innermost_kind, after_comma, after_closer, after_opener}
@@ -14,8 +14,8 @@ use Rattle.jzon.specs.Private.OpenContainers.{Container, OpenContainers, entries
 use Rattle.jzon.specs.Private.OpenContainers.{frames_around, frames_here, whole, before_item_as, before_item, HasAllValues}
 use Rattle.jzon.specs.Private.OpenContainers.{AwaitsValue, value_added, key_added, KeepsAround, IsBeforeItem, new_container}
 use Rattle.jzon.specs.Private.OpenContainers.{IsClosed}
-use Rattle.jzon.specs.declared.cursor.ContainerKind.{ContainerKind}
-use Rattle.jzon.specs.declared.cursor.ContainerKind.TheVariants.{Array, Object}
+use Rattle.jzon.specs.declared.container_kind.ContainerKind.{ContainerKind}
+use Rattle.jzon.specs.declared.container_kind.ContainerKind.TheVariants.{Array, Object}
 use Rattle.jzon.specs.declared.cursor.Cursor.{Cursor}
 use Rattle.jzon.proofs.Containers.FrameViews.{frames_depth-in, value_mark-shallow, key_mark-shallow, kind_of_frame}
 use Rattle.jzon.proofs.Containers.FrameViews.{after_comma-item, after_closer-whole, even_again, some_more}

@@ -1,6 +1,6 @@
 -- Values that are put into targets, after another step of the automaton; and errors that are propagated.
 use Rattle.jzon_base.proofs.Common.{◌≡◌, ◌∙◌, ℕ, List, refl, Result, Ok, Err, IsErrAnd, MatchResult}
-use Rattle.jzon.specs.declared.fault.Stop.{Stop}
+use Rattle.jzon.specs.declared.stop.Stop.{Stop}
 use Rattle.jzon_tree.specs.declared.value.JsonValue.{JsonValue}
 use Rattle.jzon.specs.Reading.{Reading}
 use Rattle.jzon.specs.Private.Machine.{Frames, Outcome, State, from, Reports, ReportsUnlessMemory}

@@ -19,8 +19,8 @@ use Rattle.jzon.specs.Private.OpenContainers.{Container, OpenContainers, AwaitsV
 use Rattle.jzon.specs.Private.OpenContainers.{value_added, innermost_ended, IsAdded}
 use Rattle.jzon.specs.Private.Stacks.{container_of, containers_in, containers_of, AreNested, AllAwaitValue, AllKnown}
 use Rattle.jzon.specs.Private.Stacks.{IsLaidOut}
-use Rattle.jzon.specs.declared.cursor.ContainerKind.{ContainerKind}
-use Rattle.jzon.specs.declared.cursor.ContainerKind.TheVariants.{Array, Object}
+use Rattle.jzon.specs.declared.container_kind.ContainerKind.{ContainerKind}
+use Rattle.jzon.specs.declared.container_kind.ContainerKind.TheVariants.{Array, Object}
 use Rattle.jzon.specs.declared.stacks.Frame.{Frame}
 use Rattle.jzon.specs.declared.stacks.Stacks.TheInside.{Inside}
 

@@ -16,7 +16,7 @@ use Rattle.jzon.specs.Grammar.{AreDigits, IsDigits, is_exponent_letter}
 use Rattle.jzon.specs.Spelling.{digit, inexact}
 use Rattle.jzon.specs.Fault.{limit}
 use Rattle.jzon.specs.Private.Classes.{pointed, after_letter}
-use Rattle.jzon.specs.declared.fault.Stop.TheVariants.{Limit, Inexact}
+use Rattle.jzon.specs.declared.stop.Stop.TheVariants.{Limit, Inexact}
 use Rattle.jzon.specs.Private.Machine.{Frames, numeral, after_value, Outcome, refused, outcome, from, Reports}
 use Rattle.jzon.specs.Private.Numerals.{after_first, LeadsTo, MissesDigit, HasTooMany}
 use Rattle.jzon.specs.Private.Numerals.{LosesDigit, digit_offset}

@@ -17,7 +17,7 @@ use Rattle.jzon.specs.Meaning as meaning
 use Rattle.jzon.specs.Private.Classes.{after_letter, signed_exponent, plus_char, minus_char}
 use Rattle.jzon.specs.Private.Machine.{Frames, numeral, after_value, Outcome, refused, outcome, from, fault_here, Reports}
 use Rattle.jzon.specs.Fault.{limit}
-use Rattle.jzon.specs.declared.fault.Stop.TheVariants.{Inexact}
+use Rattle.jzon.specs.declared.stop.Stop.TheVariants.{Inexact}
 use Rattle.jzon.proofs.Texts.FaultOffsets.{reports_inexact}
 use Rattle.jzon.proofs.Texts.ClassesOfCharacters.{class-char}
 use Rattle.jzon.proofs.Texts.AsciiRuns.{chars-ascii, IsUtf8-past_ascii, stops_run}

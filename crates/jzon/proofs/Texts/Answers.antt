@@ -1,7 +1,6 @@
 -- The result of a parser that returns the automaton's outcome (`answers_of`): the value that the text means, or its
 -- error. And the error of one text, by computation (`refused_error`).
-use Rattle.jzon_base.proofs.Common.{inl, inr, ◌≡◌, ℕ, ◌-◌, List, length, Result, Ok, Err, subst, sym, ◌∙◌, refl, IfOk, chars}
-use Rattle.jzon_base.proofs.Common.{IfErr}
+use Rattle.jzon_base.proofs.Common.{inl, inr, ◌≡◌, ℕ, ◌-◌, List, length, Result, Ok, Err, subst, sym, ◌∙◌, refl, chars}
 use Rattle.jzon_base.specs.declared.error.Error.{Error}
 use Rattle.jzon_base.specs.declared.error.Error.TheVariants.{ExceededDepthLimit}
 use Rattle.jzon_tree.specs.View.{view}
@@ -11,7 +10,7 @@ use Rattle.jzon.specs.Spelling.{deep, digit}
 use Rattle.jzon.specs.Fault.{Fault, limit, error_at, IsErrorOf}
 use Rattle.jzon.specs.Private.Machine.{no_frames, before, Outcome, meant, refused, outcome, from, Reads}
 use Rattle.jzon.specs.Private.Stops.{reported_error}
-use Rattle.jzon.specs.declared.fault.Stop.{Stop}
+use Rattle.jzon.specs.declared.stop.Stop.{Stop}
 use Rattle.jzon.specs.Answer.{IsMeaningOf, IsReadable, IsErrorUnlessMemory}
 use Rattle.jzon.proofs.Texts.Verdict.{Verdict, answers}
 use Rattle.jzon.proofs.ReadBack.MeaningHeld.{meaning_held}
@@ -42,21 +41,12 @@ unfolding from
 answers_of r bytes result read =
     answers_by r bytes result (outcome r (chars bytes) (before no_frames)) (answers r (chars bytes)) read
 
--- the same, clause by clause
-pub value_of : (r : Reading) (t : List ℕ) (result : Result JsonValue Error) → Answers r t result
-    → IfOk result (IsMeaningOf r t)
-value_of r t (Ok v) h = h
-value_of r t (Err e) h = tt
-
-pub readable_of : (r : Reading) (t : List ℕ) (result : Result JsonValue Error) → Answers r t result
-    → IfOk result (λ v. IsReadable r (view v))
-readable_of r t (Ok v) h = subst (λ w. IsReadable r w) (sym h.2) (meaning_held r t h.0 h.1)
-readable_of r t (Err e) h = tt
-
-pub error_of : (r : Reading) (t : List ℕ) (result : Result JsonValue Error) → Answers r t result
-    → IfErr result (IsErrorUnlessMemory r t)
-error_of r t (Ok v) h = tt
-error_of r t (Err e) h = h
+-- an accepted text means the value, which can be read back
+pub accepted : (r : Reading) (bytes : List ℕ) (v : JsonValue) → Reads bytes (Ok v) (from r bytes (before no_frames) 0)
+    → IsMeaningOf r (chars bytes) v × IsReadable r (view v)
+accepted r bytes v read =
+    let h = answers_of r bytes (Ok v) read in
+    (h, subst (λ w. IsReadable r w) (sym h.2) (meaning_held r (chars bytes) h.0 h.1))
 
 -- the error of one text, by computation
 pub refused_error : (r : Reading) (t rest : List ℕ) (f : Fault) (e : Error)

@@ -3,7 +3,7 @@
 use Rattle.jzon_base.proofs.Common.{◌≡◌, ℕ, ◌<◌, ◌≤◌, List, true, refl, sym, subst, ◌∙◌, arith, Result, Ok, Err}
 use Rattle.jzon_base.proofs.Common.{IsErrAnd, IsUtf8, IsCharBoundary}
 use Rattle.std.proofs.lemmas.Str.{IsUtf8-had}
-use Rattle.jzon.specs.declared.fault.Stop.{Stop}
+use Rattle.jzon.specs.declared.stop.Stop.{Stop}
 use Rattle.jzon_tree.specs.declared.value.JsonValue.{JsonValue}
 use Rattle.jzon.specs.Private.Cursor.{left, IsPast, IsAfter, GoesOn}
 use Rattle.jzon.specs.Private.Machine.{State, Outcome, allows_whitespace, from, Reads, ReportsUnlessMemory}

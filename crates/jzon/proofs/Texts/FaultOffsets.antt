@@ -10,8 +10,8 @@ use Rattle.jzon.specs.Spelling.{deep, pair, digit, duplicate, inexact}
 use Rattle.jzon.specs.Fault.{limit, line, column, error_at, reported_offset}
 use Rattle.jzon.specs.Private.Machine.{Reports, Outcome, meant, refused, left_at, fault_here}
 use Rattle.jzon.specs.Private.Stops.{IsAtBoundary, stop_offset, error_between, reported_error}
-use Rattle.jzon.specs.declared.fault.Stop.{Stop}
-use Rattle.jzon.specs.declared.fault.Stop.TheVariants.{Limit, Surrogates, At, Duplicate, Inexact}
+use Rattle.jzon.specs.declared.stop.Stop.{Stop}
+use Rattle.jzon.specs.declared.stop.Stop.TheVariants.{Limit, Surrogates, At, Duplicate, Inexact}
 
 -- the characters of a text are those before a boundary and those after it
 pub chars_split : (bs : List ℕ) (i : ℕ) → IsUtf8 bs → IsCharBoundary bs i

@@ -7,8 +7,8 @@ use Rattle.jzon.specs.Located.{IsPlaceOf, IsLocated}
 use Rattle.jzon.specs.Private.Machine.{no_frames, before, Outcome, meant, refused, outcome, from, Reports}
 use Rattle.jzon.specs.Private.Machine.{ReportsUnlessMemory}
 use Rattle.jzon.specs.Private.Stops.{stop_place, place_at, reported_error}
-use Rattle.jzon.specs.declared.fault.Stop.{Stop}
-use Rattle.jzon.specs.declared.fault.Stop.TheVariants.{Memory, Limit, Surrogates, At, Duplicate, Inexact}
+use Rattle.jzon.specs.declared.stop.Stop.{Stop}
+use Rattle.jzon.specs.declared.stop.Stop.TheVariants.{Memory, Limit, Surrogates, At, Duplicate, Inexact}
 use Rattle.jzon.specs.declared.located.LocatedError.{LocatedError}
 use Rattle.jzon.proofs.Texts.FaultOffsets.{chars_split, prefix_of}
 use Rattle.jzon.proofs.Texts.ReportedErrors.{reports_no_memory}

@@ -12,8 +12,8 @@ use Rattle.jzon.specs.Spelling.{deep}
 use Rattle.jzon.specs.Fault.{Fault, limit, error_at}
 use Rattle.jzon.specs.Private.Machine.{State, Outcome, meant, refused, last, from, fault_here, Reports}
 use Rattle.jzon.specs.Private.Machine.{ReportsUnlessMemory}
-use Rattle.jzon.specs.declared.fault.Stop.{Stop}
-use Rattle.jzon.specs.declared.fault.Stop.TheVariants.{Memory, Limit}
+use Rattle.jzon.specs.declared.stop.Stop.{Stop}
+use Rattle.jzon.specs.declared.stop.Stop.TheVariants.{Memory, Limit}
 use Rattle.jzon.proofs.Texts.FaultOffsets.{chars_split, reports_limit}
 use Rattle.jzon.proofs.Texts.AsciiRuns.{chars-ascii}
 use Rattle.jzon.proofs.Texts.StepsByByte.{from_end}

@@ -6,8 +6,8 @@ use Rattle.jzon_tree.specs.Value.{Value, no_values, values_of, no_pairs, pairs_o
 use Rattle.jzon_tree.specs.Value as value
 use Rattle.jzon.specs.Private.Machine.{Frames, no_frames, array_frame, object_frame, State, before, before_key}
 use Rattle.jzon.specs.Private.Machine.{after_value}
-use Rattle.jzon.specs.declared.cursor.ContainerKind.{ContainerKind}
-use Rattle.jzon.specs.declared.cursor.ContainerKind.TheVariants.{Array, Object}
+use Rattle.jzon.specs.declared.container_kind.ContainerKind.{ContainerKind}
+use Rattle.jzon.specs.declared.container_kind.ContainerKind.TheVariants.{Array, Object}
 
 -- the opening bracket of a container
 abbrev pub opener : ContainerKind → ℕ

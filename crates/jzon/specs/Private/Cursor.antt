@@ -3,11 +3,11 @@ use Rattle.std.specs.Prelude.{◌≡◌, ℕ, ◌<◌, ◌≤◌, List, Bool, tr
 use Rattle.std.specs.Prelude.{if◌then◌else◌}
 use Rattle.jzon_tree.specs.Value.{Value}
 use Rattle.jzon.specs.Reading.{Reading}
-use Rattle.jzon.specs.declared.fault.Stop.{Stop}
+use Rattle.jzon.specs.declared.stop.Stop.{Stop}
 use Rattle.jzon.specs.Private.Brackets.{innermost_kind, after_closer, after_comma}
 use Rattle.jzon.specs.Private.Machine.{EntriesSoFar, Frames, State, Outcome, object_frame, before, after_key, after_value}
 use Rattle.jzon.specs.Private.Machine.{allows_whitespace, from, ReportsUnlessMemory}
-use Rattle.jzon.specs.declared.cursor.ContainerKind.{ContainerKind}
+use Rattle.jzon.specs.declared.container_kind.ContainerKind.{ContainerKind}
 use Rattle.jzon.specs.declared.cursor.Cursor.{Cursor}
 
 -- the outcome of the rest of the text from this state of the automaton

@@ -24,8 +24,8 @@ use Rattle.jzon.specs.Private.Classes.{begins_null, begins_true, begins_false, c
 use Rattle.jzon.specs.Private.Classes.{zero_read, whole, pointed, fraction, after_letter, signed_exponent, exponent}
 use Rattle.jzon.specs.Private.Classes.{after_first_digit}
 use Rattle.jzon.specs.Private.Stops.{IsAtBoundary, stop_offset, reported_error}
-use Rattle.jzon.specs.declared.fault.Stop.{Stop}
-use Rattle.jzon.specs.declared.fault.Stop.TheVariants.{Memory}
+use Rattle.jzon.specs.declared.stop.Stop.{Stop}
+use Rattle.jzon.specs.declared.stop.Stop.TheVariants.{Memory}
 
 -- the entries of an object read so far
 abbrev pub EntriesSoFar : Type 0

@@ -4,9 +4,9 @@ use Rattle.jzon_base.specs.DigitLimits.{AreFewEnough}
 use Rattle.jzon_base.specs.LostDigits.{HoldsOfNone, HoldsOfNoneBefore, loses_last}
 use Rattle.jzon_base.specs.declared.digits.NumberFault.{NumberFault}
 use Rattle.jzon_base.specs.declared.digits.NumberFault.TheVariants.{TooMany, Lost, OutOfRange}
-use Rattle.jzon.specs.declared.fault.Stop.{Stop}
+use Rattle.jzon.specs.declared.stop.Stop.{Stop}
 use Rattle.jzon.specs.Reading.{Reading}
-use Rattle.jzon.specs.declared.fault.Stop.TheVariants.{Limit, Inexact}
+use Rattle.jzon.specs.declared.stop.Stop.TheVariants.{Limit, Inexact}
 use Rattle.jzon.specs.Private.Machine.{Frames, Outcome, State, numeral_after_first, from, fault_here, Reports}
 
 -- the outcome of the rest of the text after the digit at offset `start`

@@ -9,8 +9,8 @@ use Rattle.jzon.specs.Private.Brackets.{closer, after_opener}
 use Rattle.jzon.specs.Private.Cursor.{next_byte}
 use Rattle.jzon.specs.Private.Machine.{EntriesSoFar, Frames, no_frames, array_frame, object_frame}
 use Rattle.jzon.specs.Private.Machine.{State, before, before_key, after_value}
-use Rattle.jzon.specs.declared.cursor.ContainerKind.{ContainerKind}
-use Rattle.jzon.specs.declared.cursor.ContainerKind.TheVariants.{Array, Object}
+use Rattle.jzon.specs.declared.container_kind.ContainerKind.{ContainerKind}
+use Rattle.jzon.specs.declared.container_kind.ContainerKind.TheVariants.{Array, Object}
 use Rattle.jzon.specs.declared.cursor.Cursor.{Cursor}
 
 -- what an open container holds so far; an object has one key more than values if the value of the last key comes next

@@ -4,7 +4,7 @@ use Rattle.std.specs.Prelude.{encode_utf8}
 use Rattle.std.specs.Str.{IsCharBoundary}
 use Rattle.jzon_base.specs.Tokens.{quotation_mark}
 use Rattle.jzon.specs.Reading.{Reading}
-use Rattle.jzon.specs.declared.fault.Stop.{Stop}
+use Rattle.jzon.specs.declared.stop.Stop.{Stop}
 use Rattle.jzon.specs.Grammar.{is_high, is_low, is_surrogate}
 use Rattle.jzon.specs.Private.Machine.{Role, State, string, between, code, second_code, after_unit, move_pair}
 use Rattle.jzon.specs.Private.Machine.{outcome_on, from, Leads, Reports}

@@ -1,11 +1,11 @@
 -- What comes after values in a container that were read.
 use Rattle.std.specs.Prelude.{Some, None, Option, Result, IfOk, OnOk}
 use Rattle.jzon.specs.Private.Cursor.{GoesOn}
-use Rattle.jzon.specs.declared.fault.Stop.{Stop}
+use Rattle.jzon.specs.declared.stop.Stop.{Stop}
 use Rattle.jzon.specs.Private.Machine.{State}
 use Rattle.jzon.specs.Private.OpenContainers.{OpenContainers, before_item, after_items, IsBeforeItem, IsAfterItems}
 use Rattle.jzon.specs.Private.OpenContainers.{KeepsAround}
-use Rattle.jzon.specs.declared.cursor.ContainerKind.{ContainerKind}
+use Rattle.jzon.specs.declared.container_kind.ContainerKind.{ContainerKind}
 use Rattle.jzon.specs.declared.cursor.Cursor.{Cursor}
 use Rattle.jzon.specs.declared.parser.Next.{Next}
 use Rattle.jzon.specs.declared.parser.Next.TheVariants.{Item, Opened, End}

@@ -6,9 +6,9 @@ use Rattle.jzon_base.specs.declared.error.Error.TheVariants.{OutOfMemory, Unexpe
 use Rattle.jzon_base.specs.declared.error.Error.TheVariants.{ExceededDepthLimit, FailedUtf8Parsing, DuplicateKey}
 use Rattle.jzon_base.specs.declared.error.Error.TheVariants.{InexactNumber}
 use Rattle.jzon.specs.Fault.{line, column}
-use Rattle.jzon.specs.declared.fault.Stop.{Stop}
+use Rattle.jzon.specs.declared.stop.Stop.{Stop}
 use Rattle.jzon.specs.declared.located.Place.{Place}
-use Rattle.jzon.specs.declared.fault.Stop.TheVariants.{Memory, Limit, Surrogates, At, Duplicate, Inexact}
+use Rattle.jzon.specs.declared.stop.Stop.TheVariants.{Memory, Limit, Surrogates, At, Duplicate, Inexact}
 
 -- the offset of a stop, if it has one, is that of a character or of the end of the text
 abbrev pub IsAtBoundary : List ℕ → Stop → Type 0

@@ -5,7 +5,7 @@ use Rattle.jzon_tree.specs.View.{view}
 use Rattle.jzon_tree.specs.Writing.{is_whitespace}
 use Rattle.jzon_tree.specs.declared.value.JsonValue.{JsonValue}
 use Rattle.jzon.specs.Reading.{Reading}
-use Rattle.jzon.specs.declared.fault.Stop.{Stop}
+use Rattle.jzon.specs.declared.stop.Stop.{Stop}
 use Rattle.jzon.specs.Private.Machine.{Frames, State, is_fresh, value_mark, after_value, from, ReportsUnlessMemory}
 
 -- A value may begin at byte i inside of the containers fs, in a reading that is exact or not: they are not too many, and

@@ -63,7 +63,7 @@ fn are_distinct_by_filter(keys: &[Key]) -> bool
 {
     let mut filter = Filter::new();
     for at in 0..keys.len() {
-        if filter.has_or_adds(&keys[..at], keys[at].as_str()) {
+        if filter.has_or_notes(&keys[..at], keys[at].as_str()) {
             return false;
         }
     }

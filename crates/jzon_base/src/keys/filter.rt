@@ -58,7 +58,7 @@ impl Filter {
     /// Whether a key has this name. The bits of the keys must be set; that of the name is set now.
     /// Keys are compared only if it was set before.
     #[inline(always)]
-    pub fn has_or_adds(&mut self, keys: &[Key], name: &str) -> bool
+    pub fn has_or_notes(&mut self, keys: &[Key], name: &str) -> bool
         requires { HaveBits keys.now self.old.words }
         ensures known { result ≡ list_any (λ k. bytes_eq k name.now) keys.now }
         ensures bits { HaveBits (keys.now ++ name.now ∷ []) self.new.words }

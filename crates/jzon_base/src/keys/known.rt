@@ -62,7 +62,7 @@ impl KnownKeys {
 
     /// Whether there is a key of this name. If not, the name is known from now on, and the caller
     /// puts its key after these. After an error exactly these keys are known, as before.
-    pub fn has_or_adds(
+    pub fn has_or_notes(
         &mut self,
         alloc: Global,
         keys: &[Key],
@@ -79,7 +79,7 @@ impl KnownKeys {
         match self {
             KnownKeys::Few(filter) => {
                 if keys.len() < LINEAR_MAX {
-                    return Ok(filter.has_or_adds(keys, name));
+                    return Ok(filter.has_or_notes(keys, name));
                 }
                 // Empty here: `add_entry` fills it with the entries of all keys.
                 let mut index = Box::new(alloc, Runs::new(alloc))?;

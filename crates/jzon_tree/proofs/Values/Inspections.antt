@@ -1,7 +1,7 @@
 -- What an inspection finds of a container, one element or entry after the other.
 use Rattle.jzon_base.proofs.Common.{◌≡◌, ℕ, zero, suc, ◌+◌, ◌-◌, ◌<◌, ◌≤◌, ◌^◌, List, [], ◌∷◌, ◌++◌, map, take, Some}
-use Rattle.jzon_base.proofs.Common.{add-one, Bool, refl, ap, arith, slice_get, max, min, ◌||◌, ◌↔◌, le-max_left}
-use Rattle.jzon_base.proofs.Common.{le-max_right, or_parts, or_from}
+use Rattle.jzon_base.proofs.Common.{add-one, refl, ap, subst, arith, slice_get, get_or, length, max, min, ◌↔◌, le-max_left}
+use Rattle.jzon_base.proofs.Common.{le-max_right}
 use Rattle.std.proofs.Math.Nat.{max-le}
 use Rattle.jzon_tree.specs.Private.Inspected.{IsInspected}
 use Rattle.jzon_tree.specs.Lawful.{IsValue, AreValues, HasNoNan, HaveNoNan, PairsHaveNoNan}
@@ -19,10 +19,6 @@ values_more (w ∷ vs) v h k = (h.0, values_more vs v h.1 k)
 nan_more : (vs : List Value) (v : Value) → HaveNoNan (values_of vs) → HasNoNan v → HaveNoNan (end vs v)
 nan_more [] v h k = (k, tt)
 nan_more (w ∷ vs) v h k = (h.0, nan_more vs v h.1 k)
-
-nan_parts : (vs : List Value) (v : Value) → HaveNoNan (end vs v) → HaveNoNan (values_of vs) × HasNoNan v
-nan_parts [] v h = (tt, h.0)
-nan_parts (w ∷ vs) v h = ((h.0, (nan_parts vs v h.1).0), (nan_parts vs v h.1).1)
 
 most_more : (vs : List Value) (v : Value) (r : ℕ) → most_nest (values_of vs) ≤ r → nest v ≤ r → most_nest (end vs v) ≤ r
 most_more [] v r h k = max-le k (omega arith)
@@ -56,12 +52,10 @@ below n r h k = omega (arith, h, k)
 below_back : (n r : ℕ) → n < r → min (n + 1) (2 ^ 128 - 1) ≤ r
 below_back n r h = omega (arith, h)
 
-pub inspected_more : (vs : List Value) (v : Value) (a b : Bool) (m n : ℕ) → IsInspected (array (values_of vs)) a m
-    → IsInspected v b n → IsInspected (array (end vs v)) (a || b) (max m (min (n + 1) (2 ^ 128 - 1)))
-inspected_more vs v a b m n h k = record {
+pub inspected_more : (vs : List Value) (v : Value) (m n : ℕ) → IsInspected (array (values_of vs)) m
+    → IsInspected v n → IsInspected (array (end vs v)) (max m (min (n + 1) (2 ^ 128 - 1)))
+inspected_more vs v m n h k = record {
   value = values_more vs v h.value k.value;
-  without = λ e. nan_more vs v (h.without (or_parts a b e).0) (k.without (or_parts a b e).1);
-  free = λ e. or_from a b (h.free (nan_parts vs v e).0) (k.free (nan_parts vs v e).1);
   within = λ r l e.
       let less = below n r l (omega (arith, e, le-max_right m (min (n + 1) (2 ^ 128 - 1)))) in
       nest_more vs v r (h.within r l (omega (arith, e, le-max_left m (min (n + 1) (2 ^ 128 - 1)))))
@@ -97,12 +91,65 @@ nest_under : (ps : List (List ℕ × JsonValue))
 nest_under [] = refl
 nest_under (p ∷ ps) = ap suc (most_under (p ∷ ps))
 
-pub inspected_object : (ps : List (List ℕ × JsonValue)) (a : Bool) (n : ℕ) → IsValue (object (pairs_of (viewed ps)))
-    → IsInspected (array (values_of (inside ps))) a n → IsInspected (object (pairs_of (viewed ps))) a n
-inspected_object ps a n h k = record {
+pub inspected_object : (ps : List (List ℕ × JsonValue)) (n : ℕ) → IsValue (object (pairs_of (viewed ps)))
+    → IsInspected (array (values_of (inside ps))) n → IsInspected (object (pairs_of (viewed ps))) n
+inspected_object ps n h k = record {
   value = h;
-  without = λ e. (nan_under ps).1 (k.without e);
-  free = λ e. k.free ((nan_under ps).0 e);
   within = λ r l e. rw (nest_under ps) (k.within r l e);
   reached = λ r l e. k.reached r l (rw (nest_under ps) at e);
 }
+
+-- ---- values that are read back
+
+-- these values are valid and contain no NaN, and nest in an array no deeper than this
+pub record AreReadable (vs : List Value) (depth : ℕ) : Type 0 where
+  pub values : AreValues (values_of vs)
+  pub clear : HaveNoNan (values_of vs)
+  pub shallow : nest (array (values_of vs)) ≤ depth
+
+pub readable_none : (depth : ℕ) → AreReadable [] depth
+readable_none depth = record { values = tt; clear = tt; shallow = omega arith }
+
+pub readable_more : (vs : List Value) (v : Value) (depth : ℕ) → AreReadable vs depth → IsValue v
+    → HasNoNan v × (nest v < depth) → AreReadable (vs ++ v ∷ []) depth
+readable_more vs v depth h k l = record {
+  values = values_more vs v h.values k;
+  clear = nan_more vs v h.clear l.0;
+  shallow = nest_more vs v depth h.shallow l.1;
+}
+
+nan_at : (vs : List Value) (i : ℕ) (v : Value) → i < length vs → get_or vs i v ≡ v → HaveNoNan (values_of vs)
+    → HasNoNan v
+nan_at [] i v l e h = absurd (omega arith)
+nan_at (w ∷ vs) zero v l e h = subst HasNoNan e h.0
+nan_at (w ∷ vs) (suc i) v l e h = nan_at vs i v (omega arith) e h.1
+
+most_at : (vs : List Value) (i : ℕ) (v : Value) → i < length vs → get_or vs i v ≡ v → nest v ≤ most_nest (values_of vs)
+most_at [] i v l e = absurd (omega arith)
+most_at (w ∷ vs) zero v l e = omega (arith, ap nest e, le-max_left (nest w) (most_nest (values_of vs)))
+most_at (w ∷ vs) (suc i) v l e =
+    omega (arith, most_at vs i v (omega arith) e, le-max_right (nest w) (most_nest (values_of vs)))
+
+-- each of them contains no NaN and is less deep
+pub readable_at : (vs : List Value) (i : ℕ) (v : Value) (depth : ℕ) → i < length vs → get_or vs i v ≡ v
+    → HaveNoNan (values_of vs) × (nest (array (values_of vs)) ≤ depth) → HasNoNan v × (nest v < depth)
+readable_at [] i v depth l e h = absurd (omega arith)
+readable_at (w ∷ vs) i v depth l e h =
+    (nan_at (w ∷ vs) i v l e h.0, omega (arith, most_at (w ∷ vs) i v l e, h.1))
+
+pub inside_at : (ps : List (List ℕ × JsonValue)) (i : ℕ) (k : List ℕ) (v : JsonValue) → slice_get ps i ≡ Some (k, v)
+    → (i < length (inside ps)) × (get_or (inside ps) i (view v) ≡ view v)
+inside_at [] i k v e = absurd (cc e)
+inside_at (p ∷ ps) zero k v e =
+    let same : p ≡ (k, v) = cc e in
+    (omega arith, ap (λ (q : List ℕ × JsonValue). view q.1) same)
+inside_at (p ∷ ps) (suc i) k v e = let rest = inside_at ps i k v e in (omega (arith, rest.0), rest.1)
+
+-- an object nests as an array of its values does
+pub object_readable : (ps : List (List ℕ × JsonValue)) (depth : ℕ) → (HasNoNan (object (pairs_of (viewed ps)))
+    × (nest (object (pairs_of (viewed ps))) ≤ depth))
+    ↔ (HaveNoNan (values_of (inside ps)) × (nest (array (values_of (inside ps))) ≤ depth))
+object_readable ps depth = (
+  λ h. ((nan_under ps).0 h.0, rw (nest_under ps) at h.1),
+  λ h. ((nan_under ps).1 h.0, rw (nest_under ps) h.1),
+)

@@ -159,7 +159,7 @@ pub(super) fn send_line<W: Write>(
 
 /// Puts a newline and 7 spaces at an offset. The bytes before it stay.
 #[inline(always)]
-pub(super) fn put_spaces(room: &mut [u8], start: usize)
+pub(super) fn put_newline_and_spaces(room: &mut [u8], start: usize)
     requires { start + 8 ≤ length room.old }
     ensures text { take (start + 8) room.new ≡ take start room.old ++ 10 ∷ replicate 7 32 }
     ensures len { length room.new ≡ length room.old }

@@ -6,7 +6,7 @@ ghost use Rattle.jzon_base.specs.NumberText.{IsCommon, written_text};
 ghost use Rattle.jzon_tree.specs.Text.{quoted};
 ghost use Rattle.jzon_tree.specs.Writing.{colon_text};
 
-use crate::codegen::layout::{LINE_ROOM, NEWLINE_AND_SPACES, put_spaces};
+use crate::codegen::layout::{LINE_ROOM, NEWLINE_AND_SPACES, put_newline_and_spaces};
 use crate::codegen::strings::{BY_ENDS_MAX_LEN, BY_ENDS_ROOM, put_quoted};
 use jzon_base::number::Number;
 use jzon_base::util::print_dec::{DIGITS_ROOM, is_common, put_digits};
@@ -182,7 +182,7 @@ impl Piece for Line {
     #[inline(always)]
     fn put(self, room: &mut [u8], start: usize, seeded: bool) -> Option<usize> {
         if !seeded {
-            put_spaces(room, start);
+            put_newline_and_spaces(room, start);
         }
         Some(start + (self.0 as usize + 1))
     }

@@ -2,9 +2,9 @@
 //! string of UTF-8, distinct keys), and the proof learns it where the part is read; after the walk
 //! it is known of all parts.
 
-ghost use Rattle.std.specs.Prelude.{◌≡◌, ◌<◌, ◌≤◌, ◌^◌, ◌∷◌, ◌++◌, ◌↔◌, [], List, IsTrue};
+ghost use Rattle.std.specs.Prelude.{◌≡◌, ◌<◌, ◌≤◌, ◌^◌, ◌∷◌, ◌++◌, [], List};
 ghost use Rattle.jzon_tree.specs.Private.Inspected.{IsInspected};
-ghost use Rattle.jzon_tree.specs.Lawful.{IsValue, HasNoNan, InRange};
+ghost use Rattle.jzon_tree.specs.Lawful.{InRange};
 ghost use Rattle.jzon_tree.specs.Value.{Value, array, nest, values_of};
 ghost use Rattle.jzon_tree.specs.View.{view, view_object, view_values};
 
@@ -16,29 +16,23 @@ use jzon_base::number::Number;
 /// What was found in a value.
 #[derive(Clone, Copy)]
 pub(crate) struct Inspection {
-    /// Whether a number in it is NaN.
-    has_nan: bool,
     /// How many non-empty containers nest, saturating at `u128::MAX`.
     nest: u128,
 }
 
 impl Inspection {
-    /// No NaN and no nesting, as in an empty container.
-    const PLAIN: Inspection = Inspection {
-        has_nan: false,
-        nest: 0,
-    };
+    /// No nesting, as in an empty container.
+    const PLAIN: Inspection = Inspection { nest: 0 };
 
     /// What is found in a container with one more element or entry. The clause speaks of an array;
     /// an object is inspected as the array of its values.
     fn with(self, item: Inspection) -> Inspection
         ensures { (vs : List Value) (v : Value)
-            → IsInspected (array (values_of vs)) self.has_nan self.nest
-            → IsInspected v item.has_nan item.nest
-            → IsInspected (array (values_of (vs ++ v ∷ []))) result.has_nan result.nest }
+            → IsInspected (array (values_of vs)) self.nest
+            → IsInspected v item.nest
+            → IsInspected (array (values_of (vs ++ v ∷ []))) result.nest }
     {
         Inspection {
-            has_nan: self.has_nan || item.has_nan,
             nest: self.nest.max(item.nest.saturating_add(1)),
         }
     }
@@ -46,9 +40,9 @@ impl Inspection {
     /// Why printing the value into memory failed: it is too deep, or else an allocation failed. It
     /// is too deep from 2^64 on, because a generator counts open containers in a `u64`.
     pub(crate) fn printing_error(self) -> Error
-        ensures memory { (v : Value) → IsInspected v self.has_nan self.nest → nest v < 2 ^ 64
+        ensures memory { (v : Value) → IsInspected v self.nest → nest v < 2 ^ 64
             → result ≡ Error.OutOfMemory }
-        ensures depth { (v : Value) → IsInspected v self.has_nan self.nest → 2 ^ 64 ≤ nest v
+        ensures depth { (v : Value) → IsInspected v self.nest → 2 ^ 64 ≤ nest v
             → result ≡ Error.ExceededDepthLimit }
     {
         if self.nest <= u128::from(u64::MAX) {
@@ -59,22 +53,11 @@ impl Inspection {
     }
 }
 
-/// Whether no number in the value is NaN, and at most `depth` non-empty containers nest in it: then
-/// a reading of this depth reads its compact and pretty texts as equal values. Allocates nothing.
-pub fn is_readable(value: &JsonValue, depth: u16) -> bool
-    ensures value { IsValue (view value.now) }
-    ensures readable { IsTrue result ↔ (HasNoNan (view value.now)
-        × (nest (view value.now) ≤ depth)) }
-{
-    let found = inspect(value);
-    !found.has_nan && found.nest <= u128::from(depth)
-}
-
-/// Whether a number in the value is NaN, and how deep the value is, by a walk over all its parts.
+/// How deep the value is, by a walk over all its parts.
 #[cycle(inspect)]
 #[tactic(auto, using(crate::proofs::Values::Views::views))]
 pub(crate) fn inspect(value: &JsonValue) -> Inspection
-    ensures { IsInspected (view value.now) result.has_nan result.nest }
+    ensures { IsInspected (view value.now) result.nest }
 {
     match value {
         JsonValue::Null | JsonValue::Boolean(_) => Inspection::PLAIN,
@@ -90,8 +73,7 @@ pub(crate) fn inspect(value: &JsonValue) -> Inspection
         }
         JsonValue::Number(number) => {
             see_number(number);
-            let has_nan = number.is_nan();
-            Inspection { has_nan, nest: 0 }
+            Inspection::PLAIN
         }
         JsonValue::Object(object) => inspect_object(object),
         JsonValue::Array(items) => inspect_items(items),
@@ -100,7 +82,7 @@ pub(crate) fn inspect(value: &JsonValue) -> Inspection
 
 #[cycle(inspect)]
 pub(crate) fn inspect_object(object: &Object) -> Inspection
-    ensures { IsInspected (view_object object.now) result.has_nan result.nest }
+    ensures { IsInspected (view_object object.now) result.nest }
 {
     let mut found = Inspection::PLAIN;
     // By position: the invariant speaks of the first `index` entries. That their keys are distinct
@@ -114,7 +96,7 @@ pub(crate) fn inspect_object(object: &Object) -> Inspection
 
 #[cycle(inspect)]
 fn inspect_items(items: &[JsonValue]) -> Inspection
-    ensures { IsInspected (array (view_values items.now)) result.has_nan result.nest }
+    ensures { IsInspected (array (view_values items.now)) result.nest }
 {
     let mut found = Inspection::PLAIN;
     for item in items {

@@ -7,7 +7,7 @@ use Rattle.jzon_base.specs.declared.digits.NumberFault.{NumberFault}
 use Rattle.jzon_base.specs.declared.digits.NumberFault.TheVariants.{TooMany, Lost, OutOfRange}
 use Rattle.jzon_tree.specs.Value.{number}
 use Rattle.jzon.specs.Reading.{Reading}
-use Rattle.jzon.specs.declared.fault.Stop.TheVariants.{Inexact}
+use Rattle.jzon.specs.declared.stop.Stop.TheVariants.{Inexact}
 use Rattle.jzon.specs.Private.Machine.{Frames, after_value, from, Reports}
 use Rattle.jzon.specs.Private.Numerals.{after_first, AreKept, HasTooMany, LosesDigit, number_stop}
 use Rattle.jzon.proofs.numeral.read_number.Goals.{in-Some, in-None+in_ok-mantissa-in-None}

@@ -7,10 +7,10 @@ use Rattle.jzon.specs.Private.Cursor.{left, next_byte}
 use Rattle.jzon.specs.Private.Machine.{no_frames, before, after_value, from, Reads}
 use Rattle.jzon.specs.Private.OpenContainers.{before_item}
 use Rattle.jzon.specs.Private.Targets.{MayBegin}
-use Rattle.jzon.specs.declared.cursor.ContainerKind.{ContainerKind}
-use Rattle.jzon.specs.declared.cursor.ContainerKind.TheVariants.{Array, Object}
+use Rattle.jzon.specs.declared.container_kind.ContainerKind.{ContainerKind}
+use Rattle.jzon.specs.declared.container_kind.ContainerKind.TheVariants.{Array, Object}
 use Rattle.jzon.specs.declared.cursor.Cursor.{Cursor}
-use Rattle.jzon.specs.declared.fault.Stop.TheVariants.{Memory}
+use Rattle.jzon.specs.declared.stop.Stop.TheVariants.{Memory}
 use Rattle.jzon.proofs.Containers.FrameViews.{byte_within}
 use Rattle.jzon.proofs.Containers.OpenItems.{before_first}
 use Rattle.jzon.proofs.Texts.Cursors.{utf8_of, token_goes, reads_from}
@@ -39,7 +39,7 @@ returns-in_err-end-clause-outcome c =
     subst (λ z. Reads bytes z (from c.args.reading.now bytes (before no_frames) 0)) (sym failed.1)
     (reads_from bytes (from c.args.reading.now bytes (before no_frames) 0) t (before no_frames) (Err failed.0)
     past.text (past.same (before no_frames) refl)
-    (rw failed.2 (c.in_err-end.ensures.outcome.1 t.reading no_frames (begins t c.args.reading.now.exact (ap (λ r. r.exact) past.reading)))))
+    (rw failed.2 (c.in_err-end.ensures.outcome.1 t.reading no_frames (begins t c.exact_numbers-exact.result (sym c.exact_numbers-exact.ensures)))))
 
 pub returns-in_err-end-clause-memory : goal.returns-in_err-end-clause-memory
 returns-in_err-end-clause-memory c e =
@@ -58,7 +58,7 @@ returns-in_default-clause-outcome c =
     let past = c.new-cursor.ensures in
     let put = c.in_ok-end.ensures.outcome in
     let read = token_goes t u (before no_frames) (after_value no_frames (view put.0)) c.in_ok-end.end
-    c.go_to.ensures c.in_ok-end.ensures.end.0 refl (put.2 t.reading no_frames (begins t c.args.reading.now.exact (ap (λ r. r.exact) past.reading))) in
+    c.go_to.ensures c.in_ok-end.ensures.end.0 refl (put.2 t.reading no_frames (begins t c.exact_numbers-exact.result (sym c.exact_numbers-exact.ensures))) in
     reads_from _ _ u (after_value no_frames (view c.put_primitive.new.target)) c.expect_end.result
     (read.0.text ∙ past.text)
     (past.same (before no_frames) refl ∙ read.1 ∙ ap (λ v. left u (after_value no_frames (view v))) (sym put.1))

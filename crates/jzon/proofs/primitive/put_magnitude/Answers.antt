@@ -11,13 +11,13 @@ use Rattle.jzon.proofs.primitive.put_magnitude.Goals as goal
 pub returns-in_err-number-clause-memory : goal.returns-in_err-number-clause-memory
 returns-in_err-number-clause-memory g c =
     fails_without_memory c.args.source.now _ _ c.from_residual.result c.from_residual.ensures.1
-    (c.in_err-number.ensures.outcome (record usual { exact = c.args.reading.now.exact }) no_frames refl)
+    (c.in_err-number.ensures.outcome (record usual { exact = c.args.exact }) no_frames refl)
 
 pub returns-in_err-number-clause-outcome : goal.returns-in_err-number-clause-outcome
 returns-in_err-number-clause-outcome g c =
     puts_none (g.T.Target.takes c.args.target.now) c.args.target.now c.args.target.now c.from_residual.result
     c.args.source.now (c.args.start + 1)
-    (λ fs. numeral_after_first fs c.args.negative (get_or c.args.source.now c.args.start 0)) (λ r fs. r.exact ≡ c.args.reading.now.exact) _
+    (λ fs. numeral_after_first fs c.args.negative (get_or c.args.source.now c.args.start 0)) (λ r fs. r.exact ≡ c.args.exact) _
     c.from_residual.ensures.1 refl (λ r fs same. inr (c.in_err-number.ensures.outcome r fs same))
 
 pub returns-clause-outcome : goal.returns-clause-outcome

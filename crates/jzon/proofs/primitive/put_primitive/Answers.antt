@@ -34,7 +34,7 @@ returns-then-is_ascii_digit-clause-outcome g c =
     puts_from (g.T.Target.takes c.args.target.now) c.args.target.now c.put_magnitude.new.target c.put_magnitude.result
     c.args.source.now c.args.start (c.args.start + 1) before
     (λ fs. numeral_after_first fs false (get_or c.args.source.now c.args.start 0))
-    (λ r fs. MayBegin r fs c.args.source.now c.args.start c.args.reading.now.exact) (λ r fs. r.exact ≡ c.args.reading.now.exact)
+    (λ r fs. MayBegin r fs c.args.source.now c.args.start c.args.exact) (λ r fs. r.exact ≡ c.args.exact)
     (λ r fs may. (
       may.exactness,
       begin_digit r c.args.source.now c.args.start fs c.utf8.source c.requires.boundary here.0 here.1 may.shallow,
@@ -77,7 +77,7 @@ returns-then-not-is_ascii_digit-clause-outcome g c =
     let e : get_or source start 0 ≡ 45 = sym c.requires.first ∙ c.in-45.is in
     let within = byte_within source start 45 e (lit< tt) in
     puts_fault (g.T.Target.takes c.args.target.now) c.args.target.now (Err c.fault_at.result) source start before
-    (λ r fs. MayBegin r fs source start c.args.reading.now.exact) (fault_here (chars (drop (start + 1) source)))
+    (λ r fs. MayBegin r fs source start c.args.exact) (fault_here (chars (drop (start + 1) source)))
     (λ r fs may. begin_by r source start fs minus_char _ refl c.utf8.source c.requires.boundary within e (lit< tt)
     may.shallow
     ∙ from_stop r source (start + 1) (numeral fs true after_minus) c.utf8.source
@@ -96,7 +96,7 @@ returns-else-not-is_ascii_digit-clause-outcome g c =
     let within = byte_within source start 45 e (lit< tt) in
     puts_from (g.T.Target.takes c.args.target.now) c.args.target.now c.put_magnitude-in-45.new.target
     c.put_magnitude-in-45.result source start (start + 1 + 1) before
-    (λ fs. numeral_after_first fs true (get_or source (start + 1) 0)) (λ r fs. MayBegin r fs source start c.args.reading.now.exact) (λ r fs. r.exact ≡ c.args.reading.now.exact)
+    (λ fs. numeral_after_first fs true (get_or source (start + 1) 0)) (λ r fs. MayBegin r fs source start c.args.exact) (λ r fs. r.exact ≡ c.args.exact)
     (λ r fs may. (
       may.exactness,
       begin_by r source start fs minus_char _ refl c.utf8.source c.requires.boundary within e (lit< tt) may.shallow
@@ -113,7 +113,7 @@ returns-in_err-spelled-in-34-clause-outcome g c =
     let start = c.args.start in
     let e : get_or source start 0 ≡ 34 = sym c.requires.first ∙ c.in-34.is in
     puts_none (g.T.Target.takes c.args.target.now) c.args.target.now c.args.target.now c.from_residual.result
-    source start before (λ r fs. MayBegin r fs source start c.args.reading.now.exact) _ c.from_residual.ensures.1 refl
+    source start before (λ r fs. MayBegin r fs source start c.args.exact) _ c.from_residual.ensures.1 refl
     (λ r fs may. subst (ReportsUnlessMemory source _)
     (sym (begin_by r source start fs quote _ refl c.utf8.source c.requires.boundary
     (byte_within source start 34 e (lit< tt)) e (lit< tt) may.shallow))
@@ -138,13 +138,13 @@ pub returns-in-110-clause-outcome : goal.returns-in-110-clause-outcome
 returns-in-110-clause-outcome g c =
     puts_from (g.T.Target.takes c.args.target.now) c.args.target.now c.put_literal.new.target c.put_literal.result
     c.args.source.now c.args.start c.args.start before before
-    (λ r fs. MayBegin r fs c.args.source.now c.args.start c.args.reading.now.exact) (λ r fs. value_mark r fs ≡ None) (λ r fs may. (may.shallow, refl)) c.put_literal.ensures.outcome
+    (λ r fs. MayBegin r fs c.args.source.now c.args.start c.args.exact) (λ r fs. value_mark r fs ≡ None) (λ r fs may. (may.shallow, refl)) c.put_literal.ensures.outcome
 
 pub returns-in_default-clause-outcome : goal.returns-in_default-clause-outcome
 returns-in_default-clause-outcome g c =
     let first = c.requires.first in
     puts_fault (g.T.Target.takes c.args.target.now) c.args.target.now (Err c.fault_at-in_default.result) c.args.source.now c.args.start
-    before (λ r fs. MayBegin r fs c.args.source.now c.args.start c.args.reading.now.exact) (fault_here (chars (drop c.args.start c.args.source.now)))
+    before (λ r fs. MayBegin r fs c.args.source.now c.args.start c.args.exact) (fault_here (chars (drop c.args.start c.args.source.now)))
     (λ r fs may. from_stop r c.args.source.now c.args.start (before fs) c.utf8.source c.requires.boundary
     (stops_before r c.args.source.now c.args.start fs may.shallow (λ lt. record {
       no_space = may.no_space lt;

@@ -6,13 +6,13 @@ use Rattle.jzon.specs.Private.OpenContainers.{frames_around, frames_here, whole,
 use Rattle.jzon.proofs.Containers.OpenItems.{added_before, added_even, ended_here, goes_to_item, outer_of, closed_in}
 use Rattle.jzon.proofs.Containers.OpenItems.{outer_kind, goes_to}
 use Rattle.jzon.proofs.Texts.Cursors.{Reached, reached, goes_after, fails_on}
-use Rattle.jzon.proofs.parser.Parser.end_containers.Goals.{After-container_ends}
+use Rattle.jzon.proofs.parser.Parser.end_containers.Goals.{After-end_item}
 use Rattle.jzon.proofs.parser.Parser.end_containers.Goals as goal
 
-closed : (c : After-container_ends) → IsClosed c.loop-value.self.stacks c.close.new.self
+closed : (c : After-end_item) → IsClosed c.loop-value.self.stacks c.close.new.self
 closed c = c.in_ok-value.ensures.inner c.in_default.is
 
-came : (c : After-container_ends) → Reached c.args.self.now.cursor
+came : (c : After-end_item) → Reached c.args.self.now.cursor
     (after_value (frames_around c.args.self.now.stacks) (whole c.args.self.now.stacks.innermost))
     c.loop-value.self.cursor (after_value (frames_here (outer_of (closed c))) (view (closed c).value))
 came c = record {
@@ -22,19 +22,19 @@ came c = record {
   same = c.loop-value.invariant.came.same ∙ ap (left c.loop-value.self.cursor) (closed_in (closed c));
 }
 
-pub returns-in_err-container_ends-clause-outcome : goal.returns-in_err-container_ends-clause-outcome
-returns-in_err-container_ends-clause-outcome c s o h =
-    let at = (goal.at.returns-in_err-container_ends-clause-outcome c).After-container_ends in
-    fails_on _ c.from_residual-in_err-container_ends.result _ c.from_residual-in_err-container_ends.ensures.1
+pub returns-in_err-end_item-clause-outcome : goal.returns-in_err-end_item-clause-outcome
+returns-in_err-end_item-clause-outcome c s o h =
+    let at = (goal.at.returns-in_err-end_item-clause-outcome c).After-end_item in
+    fails_on _ c.from_residual-in_err-end_item.result _ c.from_residual-in_err-end_item.ensures.1
     (reached (goes_to o h (came at)))
-    (c.in_err-container_ends.ensures _ (frames_here (outer_of (closed at))) (view (closed at).value)
+    (c.in_err-end_item.ensures _ (frames_here (outer_of (closed at))) (view (closed at).value)
     (outer_kind (closed at) _ c.innermost_kind-container.ensures) refl)
 
 -- the bracket or the comma after the container was read
 pub returns-then-not-branch-clause-after : goal.returns-then-not-branch-clause-after
 returns-then-not-branch-clause-after c =
-    let at = (goal.at.returns-then-not-branch-clause-after c).After-container_ends in
-    let ends = c.in_ok-container_ends.ensures _ (frames_here (outer_of (closed at))) (view (closed at).value)
+    let at = (goal.at.returns-then-not-branch-clause-after c).After-end_item in
+    let ends = c.in_ok-end_item.ensures _ (frames_here (outer_of (closed at))) (view (closed at).value)
     (outer_kind (closed at) _ c.innermost_kind-container.ensures) refl in
     added_before _ (outer_of (closed at)) _ (closed at).value (closed at).added.awaits (closed at).added.closed
     (omega (
@@ -46,24 +46,24 @@ returns-then-not-branch-clause-after c =
 
 pub returns-then-not-branch-clause-outcome : goal.returns-then-not-branch-clause-outcome
 returns-then-not-branch-clause-outcome c s o h =
-    let at = (goal.at.returns-then-not-branch-clause-outcome c).After-container_ends in
+    let at = (goal.at.returns-then-not-branch-clause-outcome c).After-end_item in
     goes_to_item s _ o (outer_of (closed at)) _ (closed at).value _ (closed at).added.awaits (closed at).added.closed
     c.if-not-branch.true
     (goes_after _ (reached (goes_to o h (came at)))
-    (c.in_ok-container_ends.ensures _ (frames_here (outer_of (closed at))) (view (closed at).value)
+    (c.in_ok-end_item.ensures _ (frames_here (outer_of (closed at))) (view (closed at).value)
     (outer_kind (closed at) _ c.innermost_kind-container.ensures) refl))
 
 pub loop-value-smaller : goal.loop-value-smaller
 loop-value-smaller c =
-    let at = (goal.at.loop-value-smaller c).After-container_ends in
-    let ends = c.in_ok-container_ends.ensures _ (frames_here (outer_of (closed at))) (view (closed at).value)
+    let at = (goal.at.loop-value-smaller c).After-end_item in
+    let ends = c.in_ok-end_item.ensures _ (frames_here (outer_of (closed at))) (view (closed at).value)
     (outer_kind (closed at) _ c.innermost_kind-container.ensures) refl in
-    omega (arith, ends.0.index, ap length ends.0.text, c.container_ends.new.self.boundary.0)
+    omega (arith, ends.0.index, ap length ends.0.text, c.end_item.new.self.boundary.0)
 
 pub loop-value-preserved : goal.loop-value-preserved
 loop-value-preserved c =
-    let at = (goal.at.loop-value-preserved c).After-container_ends in
-    let ends = c.in_ok-container_ends.ensures _ (frames_here (outer_of (closed at))) (view (closed at).value)
+    let at = (goal.at.loop-value-preserved c).After-end_item in
+    let ends = c.in_ok-end_item.ensures _ (frames_here (outer_of (closed at))) (view (closed at).value)
     (outer_kind (closed at) _ c.innermost_kind-container.ensures) refl in
     record {
       strict = ap (λ z. z.strict) (closed at).added.closed ∙ c.loop-value.invariant.strict;

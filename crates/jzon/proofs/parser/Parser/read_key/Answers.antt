@@ -14,7 +14,7 @@ use Rattle.jzon.proofs.Containers.OpenItems.{at_key, no_key_mark, no_entries, ke
 use Rattle.jzon.proofs.Containers.OpenItems.{goes_as}
 use Rattle.jzon.proofs.Strings.Quotes.{key_refused, key_goes}
 use Rattle.jzon.proofs.Texts.Cursors.{utf8_of, reported_on, fails_on}
-use Rattle.jzon.specs.declared.fault.Stop.TheVariants.{Duplicate}
+use Rattle.jzon.specs.declared.stop.Stop.TheVariants.{Duplicate}
 use Rattle.jzon.proofs.Texts.FaultOffsets.{reports_duplicate}
 use Rattle.jzon.proofs.Texts.ReportedErrors.{reported, reported_again}
 use Rattle.jzon.proofs.parser.Parser.read_key.Goals as goal
@@ -98,10 +98,10 @@ returns-clause-outcome c =
     let even = subst (λ b. HasAllValues b s.innermost) c.requires.object c.requires.before.even in
     let pushed = c.in_ok-push_key.ensures.pushed ∙ ap (λ b. if b then s else key_added s name) c.if-branch.false in
     let next = key_here s u name c.requires.object even pushed in
-    goes_as t c.colon_at.new.self (before_item s) c.colon_at.result (λ _. before (object_frame fs es text))
+    goes_as t c.pass_colon.new.self (before_item s) c.pass_colon.result (λ _. before (object_frame fs es text))
     (λ _. before (frames_here u))
     (λ _. ap (λ k. before (object_frame fs es k)) (sym c.text.ensures.text) ∙ ap before next)
-    (c.colon_at.ensures (before_item s) fs es text ((at_key t s c.requires.object).same
+    (c.pass_colon.ensures (before_item s) fs es text ((at_key t s c.requires.object).same
     ∙ key_closes t fs es text end (sym c.peek.ensures ∙ c.if-peek-ne34.false) (no_key_mark t s c.requires.before.room)
     (c.in_ok-spelled.ensures.outcome t.reading (as_key fs es (left_at t.source.now t.index)))
     ∙ key_goes t.reading t.source.now fs es (left_at t.source.now t.index) text end new))
@@ -114,7 +114,7 @@ pub returns-clause-kept : goal.returns-clause-kept
 returns-clause-kept c =
     let s = c.args.self.now.stacks in
     let name = c.text.result.0.now in
-    on_ok c.colon_at.result (key_keeps s c.push_key.new.self name (c.in_ok-push_key.ensures.pushed
+    on_ok c.pass_colon.result (key_keeps s c.push_key.new.self name (c.in_ok-push_key.ensures.pushed
     ∙ ap (λ b. if b then s else key_added s name) c.if-branch.false))
 
 pub returns-clause-awaits : goal.returns-clause-awaits
@@ -122,5 +122,5 @@ returns-clause-awaits c =
     let s = c.args.self.now.stacks in
     let name = c.text.result.0.now in
     let even = subst (λ b. HasAllValues b s.innermost) c.requires.object c.requires.before.even in
-    on_ok c.colon_at.result (key_awaits s c.push_key.new.self name even (c.in_ok-push_key.ensures.pushed
+    on_ok c.pass_colon.result (key_awaits s c.push_key.new.self name even (c.in_ok-push_key.ensures.pushed
     ∙ ap (λ b. if b then s else key_added s name) c.if-branch.false))

@@ -1,7 +1,7 @@
 use Rattle.jzon_base.proofs.Common.{◌≡◌, ◌∙◌, ◌++◌, ◌∷◌, [], ℕ, List, take, ap, is_some}
 use Rattle.jzon_base.proofs.Common.{Vec, Global, Result, Ok, Err}
 use Rattle.std.specs.Prelude.{reverse}
-use Rattle.jzon.specs.declared.fault.Stop.{Stop}
+use Rattle.jzon.specs.declared.stop.Stop.{Stop}
 use Rattle.jzon_tree.specs.declared.value.JsonValue.{JsonValue}
 use Rattle.jzon.specs.Private.Machine.{Frames, State}
 use Rattle.jzon.specs.Private.OpenContainers.{OpenContainers, value_added}

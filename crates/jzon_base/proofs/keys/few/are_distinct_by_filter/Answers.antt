@@ -16,17 +16,17 @@ loop-at-preserved c =
     let name = c.as_str.result.now in
     record {
       distinct = IsDistinct-more ks at _ k name (omega arith) (omega arith) c.loop-at.invariant.distinct
-          c.index-keys-at.is c.as_str.ensures (sym c.if-has_or_adds.false ∙ c.has_or_adds.ensures.known);
-      bits = All-same (HasBit c.has_or_adds.new.self.words) (take (at + 1) ks) (take at ks ++ name ∷ [])
+          c.index-keys-at.is c.as_str.ensures (sym c.if-has_or_notes.false ∙ c.has_or_notes.ensures.known);
+      bits = All-same (HasBit c.has_or_notes.new.self.words) (take (at + 1) ks) (take at ks ++ name ∷ [])
           (take_more ks at k (omega arith)
           ∙ ap (λ l. take at ks ++ l ∷ []) (sym c.index-keys-at.is ∙ sym c.as_str.ensures))
-          c.has_or_adds.ensures.bits;
+          c.has_or_notes.ensures.bits;
     }
 
-pub returns-then-has_or_adds : goal.returns-then-has_or_adds
-returns-then-has_or_adds c = (
+pub returns-then-has_or_notes : goal.returns-then-has_or_notes
+returns-then-has_or_notes c = (
   λ e. absurd (false≢true e),
   λ distinct. absurd
       (repeated c.args.keys.now c.loop-at.at _ c.index-keys-at.result c.as_str.result.now (omega arith) (omega arith)
-      c.index-keys-at.is c.as_str.ensures (sym c.if-has_or_adds.true ∙ c.has_or_adds.ensures.known) distinct),
+      c.index-keys-at.is c.as_str.ensures (sym c.if-has_or_notes.true ∙ c.has_or_notes.ensures.known) distinct),
 )

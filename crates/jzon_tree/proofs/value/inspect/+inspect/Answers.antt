@@ -27,5 +27,5 @@ pub inspect_object-returns : goal.inspect_object-returns
 inspect_object-returns t c =
     let es = entries_of c.args.object.now in
     let whole = take_all c.loop-index.index es (omega (arith, c.len-index-end.ensures.len)) in
-    inspected_object es _ _ (whole_object es c.len-index-end.ensures.distinct (rw whole at c.loop-index.invariant.0))
+    inspected_object es _ (whole_object es c.len-index-end.ensures.distinct (rw whole at c.loop-index.invariant.0))
     (rw whole at c.loop-index.invariant.1)

@@ -15,8 +15,8 @@ returns-clause-text c =
     elim c.if-not-seeded.branch [
       | then-not-seeded w ↦
           ap (take end) w.room-is
-          ∙ sym (take-take end (start + 8) w.put_spaces.new.room (omega (arith, c.requires.short)))
-          ∙ ap (take end) w.put_spaces.ensures.text ∙ cut
+          ∙ sym (take-take end (start + 8) w.put_newline_and_spaces.new.room (omega (arith, c.requires.short)))
+          ∙ ap (take end) w.put_newline_and_spaces.ensures.text ∙ cut
       | else-not-seeded w ↦
           ap (take end) (w.room-is ∙ sym (take-append-drop start room)
           ∙ ap (λ (l : List ℕ). before ++ l) (c.requires.seed w.if-not-seeded.false)) ∙ cut

@@ -4,5 +4,5 @@ use Rattle.jzon_tree.proofs.value.inspect.Inspection.with.Goals as goal
 
 pub returns : goal.returns
 returns c = λ vs v h k.
-    let more = inspected_more vs v c.args.self.has_nan c.args.item.has_nan c.args.self.nest c.args.item.nest h k in
+    let more = inspected_more vs v c.args.self.nest c.args.item.nest h k in
     search rules

@@ -2,7 +2,7 @@ use Rattle.jzon_base.proofs.Common.{◌≡◌, ◌∙◌, ◌⊎◌, inl, inr, �
 use Rattle.jzon_base.proofs.Common.{nat_eq, nat_tests, eqb-true, Bool, if◌then◌else◌, Ok, IsCharBoundary}
 use Rattle.jzon_base.proofs.Common.{IsCharBoundary-after_ascii}
 use Rattle.jzon.specs.declared.cursor.Cursor.{Cursor}
-use Rattle.jzon.specs.declared.cursor.ContainerKind.{ContainerKind}
+use Rattle.jzon.specs.declared.container_kind.ContainerKind.{ContainerKind}
 use Rattle.jzon.specs.Private.Brackets.{closer, after_closer, after_comma}
 use Rattle.jzon.specs.Private.Cursor.{left, IsPast, IsAfter, EndsItem}
 use Rattle.jzon.specs.Private.Machine.{State, after_value, allows_whitespace, from}
@@ -10,11 +10,11 @@ use Rattle.jzon.proofs.Containers.ContainerTokens.{closes, comma_goes, closer_bo
 use Rattle.jzon.proofs.Containers.FrameViews.{byte_within}
 use Rattle.jzon.proofs.Texts.Cursors.{utf8_of, ReadTo}
 use Rattle.jzon.proofs.Texts.ReportedErrors.{reported}
-use Rattle.jzon.proofs.cursor.Cursor.container_ends.Goals.{After-row_known-1, then-next-ne44+then-next-closer+else-next-ne44-2}
-use Rattle.jzon.proofs.cursor.Cursor.container_ends.Goals.{else-next-ne44-2-via-then-next-ne44-2+else-next-closer-2, else-next-ne44}
-use Rattle.jzon.proofs.cursor.Cursor.container_ends.Goals.{else-next-ne44-2-via-else-next-ne44-2, else-next-ne44-via-else-next-ne44}
-use Rattle.jzon.proofs.cursor.Cursor.container_ends.Goals.{else-next-ne44-via-then-next-ne44+else-next-closer}
-use Rattle.jzon.proofs.cursor.Cursor.container_ends.Goals as goal
+use Rattle.jzon.proofs.cursor.Cursor.end_item.Goals.{After-row_known-1, then-next-ne44+then-next-closer+else-next-ne44-2}
+use Rattle.jzon.proofs.cursor.Cursor.end_item.Goals.{else-next-ne44-2-via-then-next-ne44-2+else-next-closer-2, else-next-ne44}
+use Rattle.jzon.proofs.cursor.Cursor.end_item.Goals.{else-next-ne44-2-via-else-next-ne44-2, else-next-ne44-via-else-next-ne44}
+use Rattle.jzon.proofs.cursor.Cursor.end_item.Goals.{else-next-ne44-via-then-next-ne44+else-next-closer}
+use Rattle.jzon.proofs.cursor.Cursor.end_item.Goals as goal
 
 -- a comma or the closing bracket is at this offset, after whitespace alone
 record Found (t : Cursor) (end : ℕ) (kind : ContainerKind) (at next : ℕ) : Type 0 where

@@ -1,7 +1,7 @@
 use Rattle.jzon_base.proofs.Common.{◌∙◌, sym}
 use Rattle.jzon_base.specs.Private.Filter.{HasBit}
 use Rattle.jzon_base.proofs.KeyIndex.Filters.{missing_by}
-use Rattle.jzon_base.proofs.keys.filter.Filter.has_or_adds.Goals as goal
+use Rattle.jzon_base.proofs.keys.filter.Filter.has_or_notes.Goals as goal
 
 pub returns-else-set_bit-clause-known : goal.returns-else-set_bit-clause-known
 returns-else-set_bit-clause-known c =

@@ -4,7 +4,7 @@ use Rattle.jzon.proofs.Containers.ContainerTokens.{colon_read, colon_missing}
 use Rattle.jzon.proofs.Containers.FrameViews.{byte_within}
 use Rattle.jzon.proofs.Texts.Cursors.{utf8_of, read_to_here, reached, token_goes, goes_after, reported_on}
 use Rattle.jzon.proofs.Texts.ReportedErrors.{reported}
-use Rattle.jzon.proofs.cursor.Cursor.colon_at.Goals as goal
+use Rattle.jzon.proofs.cursor.Cursor.pass_colon.Goals as goal
 
 pub go_to-requires : goal.go_to-requires
 go_to-requires c =

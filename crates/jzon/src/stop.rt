@@ -42,7 +42,7 @@ pub(crate) type Result<T> = std::result::Result<T, Stop>;
 
 /// So that `?` after a call of std returns it.
 impl From<AllocError> for Stop {
-    ghost use Rattle.jzon.specs.declared.fault.Stop.TheVariants.{Memory};
+    ghost use Rattle.jzon.specs.declared.stop.Stop.TheVariants.{Memory};
 
     ghost from_gives = { λ _ e. e ≡ Memory };
 
