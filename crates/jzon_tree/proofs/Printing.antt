@@ -2,7 +2,6 @@
 pub mod Emissions
 pub mod ByteEnds
 pub mod HeldBytes
-pub mod Escapes
 pub mod Exits
 pub mod Members
 pub mod Orders

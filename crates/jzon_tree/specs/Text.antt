@@ -1,7 +1,8 @@
 -- The bytes that values are written as (RFC 8259, sections 2 and 7; docs/RULES.md, "Printed values").
-use Rattle.std.specs.Prelude.{ℕ, suc, ◌*◌, ◌/◌, ◌%◌, List, [], ◌∷◌, ◌++◌, replicate, Bool, ◌||◌, ◌==◌, nat_lt}
+use Rattle.std.specs.Prelude.{ℕ, suc, ◌*◌, ◌/◌, ◌%◌, List, [], ◌∷◌, ◌++◌, replicate, Bool, nat_lt}
 use Rattle.std.specs.Prelude.{if◌then◌else◌, flat_map, codes}
 use Rattle.std.specs.Char.{digit_char}
+use Rattle.jzon_base.specs.Escapes.{letter_of}
 use Rattle.jzon_base.specs.NumberText.{written_text}
 use Rattle.jzon_base.specs.Tokens.{begin_array, begin_object, end_array, end_object, escape, quotation_mark}
 use Rattle.jzon_base.specs.Tokens.{value_separator}
@@ -12,13 +13,8 @@ use Rattle.jzon_tree.specs.Value.{no_pairs, pair}
 -- other bytes below 32, else the byte itself.
 abbrev pub escaped_byte : ℕ → List ℕ
 escaped_byte c =
-    if c == quotation_mark || c == escape then escape ∷ c ∷ []
-    else (if c == 8 then codes "\\b"
-    else (if c == 9 then codes "\\t"
-    else (if c == 10 then codes "\\n"
-    else (if c == 12 then codes "\\f"
-    else (if c == 13 then codes "\\r"
-    else (if nat_lt c 32 then codes "\\u00" ++ digit_char (c / 16) ∷ digit_char (c % 16) ∷ [] else c ∷ []))))))
+    if nat_lt 0 (letter_of c) then escape ∷ letter_of c ∷ []
+    else (if nat_lt c 32 then codes "\\u00" ++ digit_char (c / 16) ∷ digit_char (c % 16) ∷ [] else c ∷ [])
 
 -- a string's bytes, escaped, without quotes
 abbrev pub escaped : List ℕ → List ℕ

@@ -320,6 +320,16 @@ marked_so false true true e = (refl, refl)
 marked_so false true false e = absurd (cc)
 marked_so false false v e = absurd (cc)
 
+fraction_digits : (r : Reading) (ws fs : List ℕ) (k : List Cell) → FirstInexact (fraction_cells r ws fs k)
+    → HasInexact (fraction_breach r ws) fs ⊎ (AreUnmarked (fraction_breach r ws) fs × FirstInexact k)
+fraction_digits r ws [] k h = inr (λ i within. absurd (omega (arith, within)), h)
+fraction_digits r ws (c ∷ cs) k h =
+    let digits : List Cell = digits_cells (fraction_breach r ws) [] (c ∷ cs) k in
+    elim (digits_first (fraction_breach r ws) [] (c ∷ cs) k (past 46 digits h)) [
+      | inl found ↦ inl found
+      | inr clear ↦ inr (λ i within. clear.0 i (omega arith) within, clear.1)
+    ]
+
 module _ (r : Reading) (d : ℕ) (es : List ℕ) (ok : IsWhole (d ∷ es)) (fs : List ℕ) (fs_ok : AreDigits fs) where
   abbrev ws : List ℕ
   ws = d ∷ es
@@ -359,17 +369,8 @@ magnitude_first r (d ∷ es) fs x ok fs_ok h =
           (let mark = sym (whole_mark r (d ∷ es) fs found.0 found.1) ∙ found.2 in
           lost_inexact (d ∷ es) fs (written_exponent x) found.0 (all_digits r d es ok fs fs_ok)
           (omega (arith, found.1, length-append (d ∷ es) fs)) (marked_so _ r.exact _ mark).1)
-      | inr rest ↦ fraction_first r d es ok fs fs_ok x rest.0 (after_whole fs rest.1)
-    ]
-  where
-    after_whole : (fs : List ℕ) → FirstInexact (fraction_cells r (d ∷ es) fs (exponent_cells r (d ∷ es) fs x []))
-        → HasInexact (fraction_breach r (d ∷ es)) fs ⊎ (AreUnmarked (fraction_breach r (d ∷ es)) fs
-        × FirstInexact (exponent_cells r (d ∷ es) fs x []))
-    after_whole [] h = inr (λ i within. absurd (omega (arith, within)), h)
-    after_whole (c ∷ cs) h = elim (digits_first (fraction_breach r (d ∷ es)) [] (c ∷ cs)
-        (exponent_cells r (d ∷ es) (c ∷ cs) x []) (past 46 _ h)) [
-      | inl found ↦ inl found
-      | inr clear ↦ inr (λ i within. clear.0 i (omega arith) within, clear.1)
+      | inr rest ↦ fraction_first r d es ok fs fs_ok x rest.0
+          (fraction_digits r (d ∷ es) fs (exponent_cells r (d ∷ es) fs x []) rest.1)
     ]
 
 pub inexact_numbers : InexactNumbers

@@ -1,12 +1,21 @@
 -- Runs of plain bytes in a string.
 use Rattle.jzon_base.proofs.Common.{◌≡◌, ℕ, zero, suc, ◌+◌, ◌≤◌, ◌<◌, Bool, true, false, cond, List, [], ◌∷◌, ◌++◌}
-use Rattle.jzon_base.proofs.Common.{length, get_or, take, drop, refl, ap, ◌∙◌, append-nil, arith}
+use Rattle.jzon_base.proofs.Common.{length, get_or, take, drop, refl, ap, ◌∙◌, append-nil, arith, nat_lt}
 use Rattle.jzon_base.proofs.Common.{take_all, drop_all, prefix_len, nat_tests, prefix_len_stops}
+use Rattle.jzon_base.specs.Escapes.{letter_of}
 use Rattle.jzon_base.specs.Private.PlainBytes.{is_plain}
 use Rattle.jzon_tree.specs.Text.{escaped, escaped_byte}
 
+-- a byte without an escape, whatever its escapes would be
+pub unescaped_byte : (l c : ℕ) (simple other : List ℕ) → l ≡ 0 → 32 ≤ c
+    → cond (nat_lt 0 l) simple (cond (nat_lt c 32) other (c ∷ [])) ≡ c ∷ []
+unescaped_byte l c simple other none large = grind (arith, nat_tests)
+
 pub escaped_byte-plain : (c : ℕ) → is_plain c ≡ true → escaped_byte c ≡ c ∷ []
-escaped_byte-plain c h = grind (arith, nat_tests)
+escaped_byte-plain c h =
+    let none : letter_of c ≡ 0 = grind (arith, nat_tests) in
+    let large : 32 ≤ c = grind (arith, nat_tests) in
+    unescaped_byte (letter_of c) c _ _ none large
 
 -- a run of plain bytes is written as it is
 escaped-run-at : (b : Bool) (c : ℕ) (cs : List ℕ) (n : ℕ) → is_plain c ≡ b

@@ -9,6 +9,7 @@ use Rattle.jzon_base.proofs.Common.{IsUtf8-nil, IsAscii-nil, IsAscii-cons}
 use Rattle.std.proofs.lemmas.Fmt.{IsAscii-decimal}
 use Rattle.std.proofs.lemmas.Str.{inside_one, IsAscii-append, IsAscii-take, IsAscii-drop}
 use Rattle.jzon_base.specs.Decimal.{Decimal, nan, parts}
+use Rattle.jzon_base.specs.Escapes.{letter_of}
 use Rattle.jzon_base.specs.NumberText.{point_after, point_after_first, fraction_text, small_exponent_text}
 use Rattle.jzon_base.specs.NumberText.{magnitude_text, written_text}
 use Rattle.jzon_tree.specs.Lawful.{InRange, IsText, IsValue, AreValues, ArePairs}
@@ -17,6 +18,7 @@ use Rattle.jzon_tree.specs.Value.{Value, null, boolean, text, number, array, obj
 use Rattle.jzon_tree.specs.Value.{no_pairs, pair, Kind, short, long}
 use Rattle.jzon_tree.specs.Writing.{Style, is_whitespace, is_all_whitespace, text_at, Joins, Encloses, Writes}
 use Rattle.jzon_tree.specs.Writing.{WritesEach, WritesPairs, colon_text}
+use Rattle.jzon_tree.proofs.Printing.PlainRuns.{unescaped_byte}
 
 -- ---- bytes below 128
 pub IsAscii-one : (c : ℕ) → c < 128 → IsAscii (c ∷ [])
@@ -89,7 +91,10 @@ pub IsAscii-escaped_byte : (c : ℕ) → c < 128 → IsAscii (escaped_byte c)
 IsAscii-escaped_byte c h = IsAscii-true (escaped_byte c) (at_below (λ b. are_ascii (escaped_byte b)) 128 c refl h)
 
 pub large_escaped : (c : ℕ) → 128 ≤ c → escaped_byte c ≡ c ∷ []
-large_escaped c h = grind (arith, nat_tests)
+large_escaped c h =
+    let none : letter_of c ≡ 0 = grind (arith, nat_tests) in
+    let large : 32 ≤ c = omega (arith, h) in
+    unescaped_byte (letter_of c) c _ _ none large
 
 pub escaped_large : (bs : List ℕ) → ((i : ℕ) → i < length bs → 128 ≤ get_or bs i 0) → escaped bs ≡ bs
 escaped_large [] h = refl
