@@ -4,16 +4,24 @@
 use jzon::JsonValue;
 use jzon_tools::decode::{self, DecodeError, Fields, FromJson};
 use std::alloc::Global;
+use std::collections::BTreeMap;
 use std::io;
 use std::io::{BufRead, BufReader, BufWriter, Write};
 use std::result::Result;
 
 /// How much is logged.
-#[derive(Clone, Copy, PartialEq, Eq)]
+#[derive(Clone, Copy)]
 enum Level {
     Debug,
     Info,
     Warn,
+}
+
+/// How a server is tested.
+#[derive(Drop)]
+enum Check {
+    Connect,
+    Get { path: String, status: u16 },
 }
 
 /// Where a server listens.
@@ -36,8 +44,10 @@ struct Limits {
 struct Config {
     name: Option<String>,
     level: Level,
+    check: Check,
     limits: Limits,
     servers: Vec<Server>,
+    ports: BTreeMap<String, u16>,
 }
 
 impl FromJson for Level {
@@ -46,7 +56,27 @@ impl FromJson for Level {
             Some("debug") => Ok(Level::Debug),
             Some("info") => Ok(Level::Info),
             Some("warn") => Ok(Level::Warn),
-            _ => Err(DecodeError::unlike(alloc, value, "\"debug\", \"info\" or \"warn\"")),
+            _ => Err(DecodeError::expected(alloc, value, "\"debug\", \"info\" or \"warn\"")),
+        }
+    }
+}
+
+impl FromJson for Check {
+    fn from_json(alloc: Global, value: &JsonValue) -> Result<Check, DecodeError> {
+        let check = Fields::of(alloc, value)?;
+        match check.str("type")? {
+            "connect" => {
+                check.deny_unknown(&["type"])?;
+                Ok(Check::Connect)
+            }
+            "get" => {
+                check.deny_unknown(&["type", "path", "status"])?;
+                Ok(Check::Get {
+                    path: check.read("path")?,
+                    status: check.read_or("status", 200)?,
+                })
+            }
+            _ => Err(check.expected("type", "\"connect\" or \"get\"")),
         }
     }
 }
@@ -67,7 +97,7 @@ impl FromJson for Limits {
         let limits = Fields::only(alloc, value, &["timeout", "price"])?;
         let timeout = limits.read_or("timeout", 30)?;
         if timeout == 0 {
-            return Err(limits.unlike("timeout", "a time of at least 1"));
+            return Err(limits.expected("timeout", "a time of at least 1"));
         }
         Ok(Limits {
             timeout,
@@ -78,12 +108,15 @@ impl FromJson for Limits {
 
 impl FromJson for Config {
     fn from_json(alloc: Global, value: &JsonValue) -> Result<Config, DecodeError> {
-        let config = Fields::only(alloc, value, &["name", "level", "limits", "servers"])?;
+        let known = &["name", "level", "check", "limits", "servers", "ports"];
+        let config = Fields::only(alloc, value, known)?;
         Ok(Config {
             name: config.optional("name")?,
             level: config.read_or("level", Level::Info)?,
+            check: config.read_or("check", Check::Connect)?,
             limits: config.read("limits")?,
             servers: config.list("servers", 3)?,
+            ports: config.read_or("ports", BTreeMap::new(alloc))?,
         })
     }
 }
@@ -110,17 +143,16 @@ fn write_config<W: Write>(out: &mut W, config: &Config) -> io::Result<()> {
         Level::Info => "info",
         Level::Warn => "warn",
     };
-    let timeout = config.limits.timeout;
-    let price = config.limits.price;
-    write!(
-        out,
-        " logs {level}, waits {timeout} s, costs {price} cents:"
-    )?;
+    let Limits { timeout, price } = config.limits;
+    write!(out, " logs {level}, waits {timeout} s, costs {price} cents")?;
+    match &config.check {
+        Check::Connect => write!(out, ", connects")?,
+        Check::Get { path, status } => write!(out, ", gets {path} ({status})")?,
+    }
+    write!(out, ", {} ports:", config.ports.len())?;
     for server in &config.servers {
-        let host = &server.host;
-        let port = server.port;
         let tags = server.tags.len();
-        write!(out, " {host}:{port} ({tags} tags)")?;
+        write!(out, " {}:{} ({tags} tags)", server.host, server.port)?;
     }
     writeln!(out)
 }

@@ -4,7 +4,6 @@ use crate::common::Tested;
 use jzon_examples::cookbook::building::{
     Profile, Shape, from_float, headers, numbered, order, renamed, reply, with_tax,
 };
-use jzon_examples::cookbook::looking::shape_of;
 
 #[test]
 fn builds(rt: HostRuntime) -> Tested {
@@ -76,7 +75,7 @@ fn refuses_other_floats(rt: HostRuntime) -> Tested {
 }
 
 #[test]
-fn goes_both_ways(rt: HostRuntime) -> Tested {
+fn builds_shapes(rt: HostRuntime) -> Tested {
     let alloc = rt.alloc();
     let rows = [
         (
@@ -93,7 +92,6 @@ fn goes_both_ways(rt: HostRuntime) -> Tested {
     ];
     for (shape, text) in rows {
         assert_eq!(rt; jzon::stringify(alloc, shape)?.as_str(), text);
-        assert!(rt; shape_of(&jzon::parse(alloc, text)?) == Some(shape));
     }
     Ok(())
 }

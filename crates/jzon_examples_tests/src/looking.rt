@@ -3,8 +3,8 @@
 use crate::common::{Tested, expect_eq};
 use jzon::{Error, JsonValue};
 use jzon_examples::cookbook::looking::{
-    cents, identifier, integer, means_the_same, numbers_of, parse_exactly, parse_servers, ports,
-    strings_inside, timeout, total, unset, wide_identifier,
+    cents, identifier, integer, means_the_same, parse_exactly, strings_inside, timeout, total, unset,
+    wide_identifier,
 };
 
 #[test]
@@ -38,66 +38,11 @@ fn finds_strings_inside(rt: HostRuntime) -> Tested {
 }
 
 #[test]
-fn finds_servers(rt: HostRuntime) -> Tested {
-    let alloc = rt.alloc();
-    let text = r#"{"servers": [{"host": "a", "tags": ["x", 1, "y"]}]}"#;
-    assert_eq!(rt;
-        jzon::stringify(alloc, parse_servers(alloc, text)?)?.as_str(),
-        r#"[{"host":"a","port":80,"tags":["x","y"]}]"#
-    );
-    Ok(())
-}
-
-#[test]
-fn says_why_there_is_no_server(rt: HostRuntime) -> Tested {
-    let alloc = rt.alloc();
-    let rows = [
-        ("[1", "Unexpected end of JSON"),
-        (
-            r#"{"servers": [{"host": "a"}, 1]}"#,
-            "`servers[1].host` is missing or no string",
-        ),
-        (
-            r#"{"servers": [{"host": "a", "port": 65536}]}"#,
-            "`servers[0].port` is missing or no u16",
-        ),
-        (
-            r#"{"servers": [{"hots": "a"}]}"#,
-            "`servers[0].hots` is no field",
-        ),
-    ];
-    for (text, message) in rows {
-        let error = parse_servers(alloc, text).err().ok_or("no error")?;
-        assert_eq!(rt; format!(in alloc; "{error}")?.as_str(), message);
-    }
-    Ok(())
-}
-
-#[test]
-fn reads_lists_and_defaults(rt: HostRuntime) -> Tested {
-    let alloc = rt.alloc();
-    let numbers = numbers_of(alloc, &jzon::parse(alloc, "[1, 20, 300]")?)?;
-    assert_eq!(rt; numbers.as_slice(), [1, 20, 300].as_slice());
-    let negative = numbers_of(alloc, &jzon::parse(alloc, "[1, -2]")?);
-    assert!(rt; negative == Err(Error::wrong_type(alloc, "u64")?));
-    Ok(())
-}
-
-#[test]
 fn reads_a_default(rt: HostRuntime) -> Tested {
     let alloc = rt.alloc();
     let config = jzon::parse(alloc, r#"{"limits": {"timeout": 5}}"#)?;
     assert_eq!(rt; timeout(&config), 5);
     assert_eq!(rt; timeout(&JsonValue::Null), 30);
-    Ok(())
-}
-
-#[test]
-fn reads_a_map(rt: HostRuntime) -> Tested {
-    let alloc = rt.alloc();
-    let object = jzon::parse(alloc, r#"{"b": 2, "c": null, "a": 1}"#)?;
-    let map = ports(alloc, &object)?;
-    assert_eq!(rt; jzon::stringify(alloc, map)?.as_str(), r#"{"a":1,"b":2}"#);
     Ok(())
 }
 

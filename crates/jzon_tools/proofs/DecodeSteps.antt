@@ -14,7 +14,7 @@ use Rattle.jzon_tools.specs.Decode.{IsErrorIn, moved_to, pointer_of}
 use Rattle.jzon_tools.specs.Escaped.{escape_of, escaped}
 use Rattle.jzon_tools.specs.Pointer.{and_then, child_of, found, tokens_in, tokens_of, unescaped, value_at}
 use Rattle.jzon_tools.specs.declared.decode.error.DecodeError.{DecodeError}
-use Rattle.jzon_tools.specs.declared.decode.error.DecodeError.TheVariants.{Json, Wrong, Missing, Unknown}
+use Rattle.jzon_tools.specs.declared.decode.error.DecodeError.TheVariants.{Text, OutOfMemory, Wrong, Missing, Unknown}
 use Rattle.jzon_tools.specs.declared.pointer.PointerError.{PointerError}
 use Rattle.jzon_tools.specs.declared.pointer.PointerError.TheVariants.{NoSlash}
 use Rattle.jzon_tools.proofs.ChangeLaws.{found-down}
@@ -97,10 +97,11 @@ below-value v c w t (x ∷ q) lacks at h = below_by (x == 47) v c w t q x lacks 
 -- an error of a child is one of the value, after the child's token
 pub below-error : (v c : Value) (t : List ℕ) (e : DecodeError) (p : String Global) → Lacks 47 t
     → child_of v t ≡ Some c → string_bytes p ≡ (47 ∷ t) ++ pointer_of e → IsErrorIn c e → IsErrorIn v (moved_to e p)
-below-error v c t (Json e) p lacks at is h = h
-below-error v c t (Wrong q wanted f) p lacks at is (w, there, says, refused) =
+below-error v c t (Text l) p lacks at is h = h
+below-error v c t OutOfMemory p lacks at is h = h
+below-error v c t (Wrong q expected f) p lacks at is (w, there, says, refused) =
     (w, ap (value_at v) is ∙ below-value v c w t (string_bytes q) lacks at there, says, refused)
-below-error v c t (Missing q wanted) p lacks at is (r, k, o, cut, there, is_one, last) = (
+below-error v c t (Missing q expected) p lacks at is (r, k, o, cut, there, is_one, last) = (
   (47 ∷ t) ++ r,
   k,
   o,
@@ -109,7 +110,7 @@ below-error v c t (Missing q wanted) p lacks at is (r, k, o, cut, there, is_one,
   is_one,
   last,
 )
-below-error v c t (Unknown q names) p lacks at is (r, k, o, cut, there, is_one, last) = (
+below-error v c t (Unknown q known) p lacks at is (r, k, o, cut, there, is_one, last) = (
   (47 ∷ t) ++ r,
   k,
   o,

@@ -1,6 +1,6 @@
 -- What a reader is seen to read.
-use Rattle.jzon.proofs.ValueLaws.{view-Null, view-Boolean, view-Short, view-String, view-Number, view-Array, view-Object, count-Array, find-view_object}
+use Rattle.jzon.proofs.ValueLaws.{view-Null, view-Boolean, view-Short, view-String, view-Number, view-Array, view-Object, count-Array, count-Object, find-view_object}
 
-pub ruleset describing = (view-Null, view-Boolean, view-Short, view-String, view-Number, view-Array, view-Object, count-Array)
+pub ruleset describing = (view-Null, view-Boolean, view-Short, view-String, view-Number, view-Array, view-Object, count-Array, count-Object)
 
 pub ruleset reading = (view-Null, view-Object, find-view_object)

@@ -1,28 +1,30 @@
-//! Reading a value into numbers, strings, lists and structs, with errors that say where, what was
-//! wanted, and what is there.
+//! Reading a text or a value into numbers, strings, lists and structs, with errors that say where,
+//! what was expected, and what is there.
 //!
-//! An error names its place by a JSON pointer into the value that was read. Nobody hands a path
-//! down: a reader knows only its own value, and the readers of containers put the key or the index
-//! before the pointer of an error that comes up. So a reading that succeeds costs nothing more, and
-//! allocates only what it returns.
+//! An error names its place by a JSON pointer. Nobody hands a path down: a reader knows only its own
+//! value, and the readers of containers put the key or the index before the pointer of an error that
+//! comes up. So a reading that succeeds allocates only what it returns.
 
-ghost use Rattle.std.specs.Prelude.{IfOk, IfErr};
+ghost use Rattle.std.specs.Prelude.{chars, IfOk, IfErr};
 ghost use Rattle.jzon.specs.Value.{Value};
 ghost use Rattle.jzon.specs.View.{view};
-ghost use Rattle.jzon_tools.specs.Decode.{IsErrorIn};
+ghost use Rattle.jzon_tools.specs.Decode.{IsErrorIn, IsErrorOfText, MeansSome};
+ghost use Rattle.jzon_tools.specs.Canonical.{strict_exact};
 
 mod error;
 mod fields;
 mod impls;
 mod path;
+mod shown;
 
-pub use error::{DecodeError, Found, Wanted};
+pub use error::{DecodeError, Expected, Found, Known, LONGEST};
 pub use fields::Fields;
-use jzon::{JsonValue, Reading};
+use jzon::{JsonValue, Reading, parse_located};
 use std::alloc::Global;
 use std::result::Result;
 
-/// Types that are read from a value.
+/// Types that are read from a value. An implementation may say by the relation `gives` which results
+/// a value gives; one that says nothing needs no ghost line.
 ///
 /// ```rust
 /// impl FromJson for Server {
@@ -43,19 +45,26 @@ pub trait FromJson: Drop {
     fn from_json(alloc: Global, value: &JsonValue) -> Result<Self, DecodeError>
         ensures value { IfOk result (gives (view value.now)) }
         ensures error { IfErr result (IsErrorIn (view value.now)) };
-
-    /// What a value must be, for the error of a missing entry.
-    fn wanted() -> Wanted {
-        Wanted::Object
-    }
 }
 
-/// What a text means, read as this type. Rejects repeated keys.
-///
-/// ```rust
-/// let config: Config = decode::from_text(alloc, text)?;
-/// ```
-pub fn from_text<T: FromJson>(alloc: Global, text: &str) -> Result<T, DecodeError> {
-    let value = jzon::parse_as(alloc, text, &Reading::STRICT)?;
+/// The value that a text means, as this type. The text is read strictly and exactly: a repeated key,
+/// and a number that a `Number` can't have exactly, are errors with line and column.
+pub fn from_text<T: FromJson>(alloc: Global, text: &str) -> Result<T, DecodeError>
+    ensures value { IfOk result (λ x. MeansSome strict_exact (chars text.now) (λ v. T.gives v x)) }
+    ensures error { IfErr result (IsErrorOfText strict_exact text.now) }
+{
+    from_text_as(alloc, text, &Reading::STRICT.with_exact_numbers())
+}
+
+/// The value that a text means by `reading`, as this type.
+pub fn from_text_as<T: FromJson>(
+    alloc: Global,
+    text: &str,
+    reading: &Reading,
+) -> Result<T, DecodeError>
+    ensures value { IfOk result (λ x. MeansSome reading.now (chars text.now) (λ v. T.gives v x)) }
+    ensures error { IfErr result (IsErrorOfText reading.now text.now) }
+{
+    let value = parse_located(alloc, text, reading)?;
     T::from_json(alloc, &value)
 }

@@ -1,129 +1,369 @@
 //! Tests of `decode`.
 
 use crate::common::{Tested, Tester, expect, expect_eq};
-use jzon::JsonValue;
+use jzon::number::Number;
+use jzon::{IntoJson, JsonValue, Reading};
+use jzon_test_support::{RUNS_MAX, Refusals, joined, rows};
 use jzon_tools::decode::{self, DecodeError, Fields, FromJson};
 use std::alloc::Global;
-use std::collections::BTreeMap;
+use std::collections::{BTreeMap, HashMap};
+use std::io;
+use std::io::ErrorKind;
 use std::result::Result;
+use std::test::Fail;
 
-/// One field of each kind.
+/// A type that a text is read as.
+#[derive(Clone, Copy)]
+enum As {
+    U8,
+    U16,
+    U32,
+    U64,
+    Usize,
+    I8,
+    I16,
+    I32,
+    I64,
+    Isize,
+    Truth,
+    Text,
+    Number,
+    Value,
+    Maybe,
+    Lists,
+    Tree,
+    Hash,
+    Sample,
+}
+
+/// Fields of each kind.
 #[derive(Drop)]
 struct Sample {
     name: String,
     small: u8,
-    least: i64,
-    cents: Option<i64>,
-    flag: bool,
+    cents: Option<Cents>,
     lists: Vec<Vec<u16>>,
+    price: i64,
     ports: BTreeMap<String, u16>,
 }
 
-#[derive(Drop)]
+#[derive(Clone, Copy)]
 struct Cents(i64);
 
 impl FromJson for Cents {
     fn from_json(alloc: Global, value: &JsonValue) -> Result<Cents, DecodeError> {
         match value.as_exact_fixed_point_i64(2) {
             Some(cents) => Ok(Cents(cents)),
-            None => Err(DecodeError::unlike(alloc, value, "a price")),
+            None => Err(DecodeError::expected(alloc, value, "a price")),
         }
     }
 }
 
 impl FromJson for Sample {
     fn from_json(alloc: Global, value: &JsonValue) -> Result<Sample, DecodeError> {
-        let names = &["name", "small", "least", "cents", "flag", "lists", "a/b~c"];
-        let sample = Fields::only(alloc, value, names)?;
-        let cents: Option<Cents> = sample.optional("cents")?;
+        let sample = Fields::of(alloc, value)?;
+        sample.deny_unknown(&["name", "small", "cents", "lists", "price", "a/b~c"])?;
+        let name = sample.str("name")?;
+        if name.is_empty() {
+            return Err(sample.expected("nick", "a second name"));
+        }
+        let small = sample.read_or("small", 7)?;
+        if small == 0 {
+            return Err(sample.expected("small", "at least 1"));
+        }
         Ok(Sample {
-            name: sample.read("name")?,
-            small: sample.read_or("small", 7)?,
-            least: sample.read_or("least", -1)?,
-            cents: cents.map(|cents| cents.0),
-            flag: sample.read_or("flag", true)?,
-            lists: sample.read_or("lists", Vec::new(alloc))?,
+            name: String::from_str(alloc, name)?,
+            small,
+            cents: sample.optional("cents")?,
+            lists: sample.list("lists", 2)?,
+            price: sample.fixed_point("price", 1)?,
             ports: sample.read_or("a/b~c", BTreeMap::new(alloc))?,
         })
     }
 }
 
-/// A text, and the message of its error.
-const REFUSED: &[(&str, &str)] = &[
-    ("7", "expected an object, found 7"),
-    ("{}", "/name: missing, expected a string"),
-    (r#"{"name": null}"#, "/name: expected a string, found null"),
-    (
-        r#"{"name": "a", "nmae": 1}"#,
-        "/nmae: unknown key, expected name, small, least, cents, flag, lists, a/b~c",
-    ),
-    (
-        r#"{"name": "a", "small": 256}"#,
-        "/small: expected an integer from 0 to 255, found 256",
-    ),
-    (
-        r#"{"name": "a", "small": 1e1}"#,
-        "/small: expected an integer from 0 to 255, found 10",
-    ),
-    (
-        r#"{"name": "a", "flag": "true"}"#,
-        "/flag: expected true or false, found \"true\"",
-    ),
-    (
-        r#"{"name": "a", "cents": 0.001}"#,
-        "/cents: expected a price, found 0.001",
-    ),
-    (
-        r#"{"name": "a", "lists": [[1], [2, 3, {}]]}"#,
-        "/lists/1/2: expected an integer from 0 to 65535, found an object",
-    ),
-    (
-        r#"{"name": "a", "lists": [[1], []], "a/b~c": {"~/x": [1]}}"#,
-        "/a~1b~0c/~0~1x: expected an integer from 0 to 65535, found an array of 1 element",
-    ),
-    (r#"{"name": "a", "name": "b"}"#, "Duplicate key at (1:15)"),
-];
+/// A text, what it is read as, and the compact text of what was read, or the error's message. 18 of
+/// the types are converted into a value and read once more in between; of a `Sample` the parts are
+/// listed.
+const READ: &[(&str, As, &str)] = rows! {
+    ("0", As::U8, "0")
+    ("255", As::U8, "255")
+    ("256", As::U8, "expected an integer from 0 to 255, found 256")
+    ("-1", As::U8, "expected an integer from 0 to 255, found -1")
+    ("1.0", As::U8, "expected an integer from 0 to 255, found 1.0")
+    ("65535", As::U16, "65535")
+    ("65536", As::U16, "expected an integer from 0 to 65535, found 65536")
+    ("4294967295", As::U32, "4294967295")
+    ("4294967296", As::U32, "expected an integer from 0 to 4294967295, found 4294967296")
+    ("18446744073709551615", As::U64, "18446744073709551615")
+    ("-1", As::U64, "expected an integer from 0 to 18446744073709551615, found -1")
+    ("18446744073709551615", As::Usize, "18446744073709551615")
+    ("-1", As::Usize, "expected an integer from 0 to 18446744073709551615, found -1")
+    ("-128", As::I8, "-128")
+    ("127", As::I8, "127")
+    ("-129", As::I8, "expected an integer from -128 to 127, found -129")
+    ("128", As::I8, "expected an integer from -128 to 127, found 128")
+    ("-32768", As::I16, "-32768")
+    ("32767", As::I16, "32767")
+    ("-32769", As::I16, "expected an integer from -32768 to 32767, found -32769")
+    ("32768", As::I16, "expected an integer from -32768 to 32767, found 32768")
+    ("-2147483648", As::I32, "-2147483648")
+    ("2147483647", As::I32, "2147483647")
+    ("-2147483649", As::I32, "expected an integer from -2147483648 to 2147483647, found -2147483649")
+    ("2147483648", As::I32, "expected an integer from -2147483648 to 2147483647, found 2147483648")
+    ("-9223372036854775808", As::I64, "-9223372036854775808")
+    ("9223372036854775807", As::I64, "9223372036854775807")
+    ("-9223372036854775809", As::I64, "expected an integer from -9223372036854775808 to 9223372036854775807, found -9223372036854775809")
+    ("9223372036854775808", As::I64, "expected an integer from -9223372036854775808 to 9223372036854775807, found 9223372036854775808")
+    ("-9223372036854775808", As::Isize, "-9223372036854775808")
+    ("9223372036854775808", As::Isize, "expected an integer from -9223372036854775808 to 9223372036854775807, found 9223372036854775808")
+    ("true", As::Truth, "true")
+    ("false", As::Truth, "false")
+    ("0", As::Truth, "expected true or false, found 0")
+    (r#""""#, As::Text, r#""""#)
+    (r#""a\n\"""#, As::Text, r#""a\n\"""#)
+    (r#""a string of more than thirty bytes""#, As::Text, r#""a string of more than thirty bytes""#)
+    ("null", As::Text, "expected a string, found null")
+    ("-12.50", As::Number, "-12.50")
+    (r#""1""#, As::Number, r#"expected a number, found "1""#)
+    (r#"{"a":[1,null]}"#, As::Value, r#"{"a":[1,null]}"#)
+    ("null", As::Maybe, "null")
+    ("9", As::Maybe, "9")
+    ("65536", As::Maybe, "expected an integer from 0 to 65535, found 65536")
+    ("[]", As::Lists, "[]")
+    ("[[1,2],[],[3]]", As::Lists, "[[1,2],[],[3]]")
+    ("5", As::Lists, "expected an array, found 5")
+    ("[[1],[2,3,{}]]", As::Lists, "/1/2: expected an integer from 0 to 65535, found an empty object")
+    ("[[1],null]", As::Lists, "/1: expected an array, found null")
+    (r#"{"b":[2],"":[1,2]}"#, As::Tree, r#"{"":[1,2],"b":[2]}"#)
+    ("[]", As::Tree, "expected an object, found an empty array")
+    (r#"{"":[1,-1]}"#, As::Tree, "//1: expected an integer from 0 to 65535, found -1")
+    (r#"{"a/b~c":[1,true]}"#, As::Tree, "/a~1b~0c/1: expected an integer from 0 to 65535, found true")
+    (r#"{"~1":5}"#, As::Tree, "/~01: expected an array, found 5")
+    (r#"{"0123456789012345678901234567890123456789":[[7]]}"#, As::Tree, "/0123456789012345678901234567890123456789/0: expected an integer from 0 to 65535, found an array of 1 element")
+    (r#"{"a\u001b\"":{"b":1}}"#, As::Tree, r#"/a\u001b\": expected an array, found an object of 1 entry"#)
+    (r#"{"a":true}"#, As::Hash, r#"{"a":true}"#)
+    ("{}", As::Hash, "{}")
+    ("[1,2]", As::Hash, "expected an object, found an array of 2 elements")
+    (r#"{"a":{"b":1,"c":2}}"#, As::Hash, "/a: expected true or false, found an object of 2 entries")
+    (r#""0123456789012345678901234567890123456789""#, As::U8, r#"expected an integer from 0 to 255, found "0123456789012345678901234567890123456789""#)
+    (r#""01234567890123456789012345678901234567890""#, As::U8, "expected an integer from 0 to 255, found a string of 41 characters")
+    (r#""éééééééééééééééééééééééééééééééééééééééé""#, As::Truth, r#"expected true or false, found "éééééééééééééééééééééééééééééééééééééééé""#)
+    (r#""\u0000\u001f\u007f\u0080\u009f~é\"\\\n\r\t/""#, As::Truth, r#"expected true or false, found "\u0000\u001f\u007f\u0080\u009f~é\"\\\n\r\t/""#)
+    (r#"{"name":"a","lists":[],"price":1}"#, As::Sample, "a 7 none 0 10 0")
+    (r#"{"name":"a","small":null,"cents":null,"lists":[],"price":1,"a/b~c":null}"#, As::Sample, "a 7 none 0 10 0")
+    (r#"{"name":"b","small":1,"cents":19.9,"lists":[[1],[]],"price":-0.5,"a/b~c":{"x":80}}"#, As::Sample, "b 1 1990 2 -5 1")
+    ("[]", As::Sample, "expected an object, found an empty array")
+    ("{}", As::Sample, "/name: missing, expected a string")
+    (r#"{"name":null}"#, As::Sample, "/name: expected a string, found null")
+    (r#"{"name":"a"}"#, As::Sample, "/lists: missing, expected an array of at most 2 elements")
+    (r#"{"name":"a","lists":null}"#, As::Sample, "/lists: expected an array, found null")
+    (r#"{"name":"a","lists":[[],[],[]]}"#, As::Sample, "/lists: expected an array of at most 2 elements, found an array of 3 elements")
+    (r#"{"name":"a","lists":[[1],[2,null]]}"#, As::Sample, "/lists/1/1: expected an integer from 0 to 65535, found null")
+    (r#"{"name":"a","nmae":1}"#, As::Sample, "/nmae: unknown key, expected name, small, cents, lists, price, a/b~c")
+    (r#"{"~/":1}"#, As::Sample, "/~0~1: unknown key, expected name, small, cents, lists, price, a/b~c")
+    (r#"{"name":"a","small":256}"#, As::Sample, "/small: expected an integer from 0 to 255, found 256")
+    (r#"{"name":"a","small":0}"#, As::Sample, "/small: expected at least 1, found 0")
+    (r#"{"name":""}"#, As::Sample, "/nick: missing, expected a second name")
+    (r#"{"name":"a","cents":0.001}"#, As::Sample, "/cents: expected a price, found 0.001")
+    (r#"{"name":"a","lists":[]}"#, As::Sample, "/price: missing, expected a number with at most 1 digit after the point")
+    (r#"{"name":"a","lists":[],"price":0.25}"#, As::Sample, "/price: expected a number with at most 1 digit after the point, found 0.25")
+    (r#"{"name":"a","lists":[],"price":1,"a/b~c":{"~/x":[1]}}"#, As::Sample, "/a~1b~0c/~0~1x: expected an integer from 0 to 65535, found an array of 1 element")
+    (r#"{"name":"a","name":"b"}"#, As::Sample, "Duplicate key at (1:13)")
+    ("18446744073709551616", As::U64, "Number is not exact at (1:20)")
+    ("[1,", As::Lists, "Unexpected end of JSON at (1:4)")
+};
 
-fn expect_refused(rt: &impl Tester, text: &str, message: &str) -> Tested {
+/// What is left of a text after it was read, converted, read and converted again.
+fn reread<T: FromJson + IntoJson>(alloc: Global, text: &str) -> Result<String, DecodeError> {
+    let first: T = decode::from_text(alloc, text)?;
+    let value = first.into_json(alloc)?;
+    let second = T::from_json(alloc, &value)?;
+    let again = second.into_json(alloc)?;
+    Ok(again.dump(alloc)?)
+}
+
+/// The parts of a sample.
+fn parts_of(alloc: Global, text: &str) -> Result<String, DecodeError> {
+    let read: Sample = decode::from_text(alloc, text)?;
+    let cents = match read.cents {
+        Some(cents) => format!(in alloc; "{}", cents.0)?,
+        None => String::from_str(alloc, "none")?,
+    };
+    let name = &read.name;
+    let (lists, ports) = (read.lists.len(), read.ports.len());
+    Ok(format!(in alloc; "{name} {} {cents} {lists} {} {ports}", read.small, read.price)?)
+}
+
+fn printed(alloc: Global, text: &str, kind: As) -> Result<String, DecodeError> {
+    match kind {
+        As::U8 => reread::<u8>(alloc, text),
+        As::U16 => reread::<u16>(alloc, text),
+        As::U32 => reread::<u32>(alloc, text),
+        As::U64 => reread::<u64>(alloc, text),
+        As::Usize => reread::<usize>(alloc, text),
+        As::I8 => reread::<i8>(alloc, text),
+        As::I16 => reread::<i16>(alloc, text),
+        As::I32 => reread::<i32>(alloc, text),
+        As::I64 => reread::<i64>(alloc, text),
+        As::Isize => reread::<isize>(alloc, text),
+        As::Truth => reread::<bool>(alloc, text),
+        As::Text => reread::<String>(alloc, text),
+        As::Number => reread::<Number>(alloc, text),
+        As::Value => reread::<JsonValue>(alloc, text),
+        As::Maybe => reread::<Option<u16>>(alloc, text),
+        As::Lists => reread::<Vec<Vec<u16>>>(alloc, text),
+        As::Tree => reread::<BTreeMap<String, Vec<u16>>>(alloc, text),
+        As::Hash => reread::<HashMap<String, bool>>(alloc, text),
+        As::Sample => parts_of(alloc, text),
+    }
+}
+
+#[test]
+fn reads_and_refuses(rt: HostRuntime) -> Tested {
     let alloc = rt.alloc();
-    match decode::from_text::<Sample>(alloc, text) {
-        Ok(_read) => expect(rt, text, false),
-        Err(error) => {
-            let printed = format!(in alloc; "{error}")?;
-            expect_eq(rt, text, printed.as_str(), message);
+    for (text, kind, want) in READ {
+        let found = match printed(alloc, text, *kind) {
+            Ok(found) => found,
+            Err(error) => format!(in alloc; "{error}")?,
+        };
+        expect_eq(&rt, text, found.as_str(), *want);
+    }
+    Ok(())
+}
+
+#[test]
+fn names_the_last_of_many(rt: HostRuntime) -> Tested {
+    let alloc = rt.alloc();
+    let text = joined(alloc, &[("[", 1), ("0,", 9999), ("256]", 1)])?;
+    match decode::from_text::<Vec<u8>>(alloc, text.as_str()) {
+        Ok(_read) => expect(&rt, "256", false),
+        Err(error) => expect_eq(&rt, "256", error.pointer(), "/9999"),
+    }
+    Ok(())
+}
+
+/// A text that the usual reading takes and the strict and exact one doesn't, and the result.
+const USUAL: &[(&str, &str)] = rows! {
+    (r#"{"a":1,"a":2}"#, r#"{"a":2}"#)
+    (r#"{"a":18446744073709551616}"#, "/a: expected an integer from 0 to 18446744073709551615, found 18446744073709551610")
+};
+
+fn usual(alloc: Global, text: &str) -> Result<String, DecodeError> {
+    let map: BTreeMap<String, u64> = decode::from_text_as(alloc, text, &Reading::USUAL)?;
+    Ok(map.into_json(alloc)?.dump(alloc)?)
+}
+
+#[test]
+fn reads_by_the_given_reading(rt: HostRuntime) -> Tested {
+    let alloc = rt.alloc();
+    for (text, want) in USUAL {
+        let found = match usual(alloc, text) {
+            Ok(found) => found,
+            Err(error) => format!(in alloc; "{error}")?,
+        };
+        expect_eq(&rt, text, found.as_str(), *want);
+    }
+    Ok(())
+}
+
+/// A text that isn't read, and the kind and the message of its error as an `io::Error`. Of 80 bytes
+/// a long pointer takes what it needs.
+const RAISED: &[(&str, As, ErrorKind, &str)] = rows! {
+    ("", As::U8, ErrorKind::UnexpectedEof, "Unexpected end of JSON at (1:1)")
+    ("x", As::U8, ErrorKind::InvalidData, "Unexpected character: x at (1:1)")
+    ("256", As::U8, ErrorKind::InvalidData, "expected an integer from 0 to 255, found 256")
+    ("{}", As::Sample, ErrorKind::InvalidData, "/name: missing, expected a string")
+    (r#"{"a":1}"#, As::Sample, ErrorKind::InvalidData, "/a: unknown key, expected name, small, cents, lists, price, a/b~c")
+    (r#"{"0123456789012345678901234567890123456789":7}"#, As::Tree, ErrorKind::InvalidData, "/0123456789012345678901234567890123456789: expected an array, found 7")
+    (r#"{"0123456789012345678901234567890123456789012345678901":7}"#, As::Tree, ErrorKind::InvalidData, "/0123456789012345678901234567890123456789012345678901: expected an array, found ")
+    (r#"{"0123456789012345678901234567890123456789012345678901234567890123456789012345678901234567":7}"#, As::Tree, ErrorKind::InvalidData, "/0123456789012345678901234567890123456789012345678901234567890123456789012345678")
+};
+
+#[test]
+fn raises_io_errors(rt: HostRuntime) -> Tested {
+    let alloc = rt.alloc();
+    for (text, kind, io_kind, message) in RAISED {
+        match printed(alloc, text, *kind) {
+            Ok(_found) => expect(&rt, text, false),
+            Err(error) => {
+                let raised = io::Error::from(error);
+                expect_eq(&rt, text, raised.kind(), *io_kind);
+                let found = format!(in alloc; "{raised}")?;
+                expect_eq(&rt, text, found.as_str(), *message);
+            }
         }
     }
+    let raised = io::Error::from(DecodeError::OutOfMemory);
+    expect_eq(&rt, "memory", raised.kind(), ErrorKind::OutOfMemory);
     Ok(())
 }
 
-#[test]
-fn refuses(rt: HostRuntime) -> Tested {
-    for (text, message) in REFUSED {
-        expect_refused(&rt, text, message)?;
+/// A value, what it is read as, the number of allocations, and the pointer of the error. Each list,
+/// string and entry of a map is allocated, and so is the pointer of an error again for each step.
+const ALLOCATING: &[(&str, As, usize, Option<&str>)] = rows! {
+    (r#""abc""#, As::Text, 1, None)
+    (r#""abc""#, As::U8, 1, Some(""))
+    ("[[1],[2,3]]", As::Lists, 3, None)
+    ("[[1],[2,null]]", As::Lists, 5, Some("/1/1"))
+    (r#"{"name":"a","lists":[[1]],"price":1}"#, As::Sample, 3, None)
+    (r#"{"name":"a","lists":[["b"]],"price":1}"#, As::Sample, 7, Some("/lists/0/0"))
+    ("{}", As::Sample, 1, Some("/name"))
+    (r#"{"b":1}"#, As::Sample, 1, Some("/b"))
+};
+
+fn taken<T: FromJson>(alloc: Global, value: &JsonValue) -> Result<(), DecodeError> {
+    let _read = T::from_json(alloc, value)?;
+    Ok(())
+}
+
+fn take(alloc: Global, value: &JsonValue, kind: As) -> Result<(), DecodeError> {
+    match kind {
+        As::Text => taken::<String>(alloc, value),
+        As::Lists => taken::<Vec<Vec<u16>>>(alloc, value),
+        As::Sample => taken::<Sample>(alloc, value),
+        _ => taken::<u8>(alloc, value),
     }
-    Ok(())
+}
+
+/// One run. Whether an allocation failed: then this is the error.
+fn run(
+    rt: &impl Tester,
+    value: &JsonValue,
+    kind: As,
+    pointer: Option<&str>,
+    refusals: &mut Refusals,
+) -> Result<bool, Fail> {
+    refusals.begin();
+    let outcome = take(rt.alloc(), value, kind);
+    let has_failed = refusals.has_failed();
+    if has_failed {
+        let is_it = matches!(outcome, Err(DecodeError::OutOfMemory));
+        expect(rt, "memory", is_it);
+    } else {
+        let found = match &outcome {
+            Ok(()) => None,
+            Err(error) => Some(error.pointer()),
+        };
+        expect_eq(rt, "pointer", found, pointer);
+    }
+    Ok(has_failed)
 }
 
 #[test]
-fn reads(rt: HostRuntime) -> Tested {
-    let alloc = rt.alloc();
-    let least: Sample = decode::from_text(alloc, r#"{"name": "a", "cents": null}"#)?;
-    expect_eq(&rt, "name", least.name.as_str(), "a");
-    expect_eq(&rt, "small", least.small, 7);
-    expect_eq(&rt, "least", least.least, -1);
-    expect_eq(&rt, "cents", least.cents, None);
-    expect_eq(&rt, "flag", least.flag, true);
-    expect_eq(&rt, "lists", least.lists.len(), 0);
-    expect_eq(&rt, "ports", least.ports.len(), 0);
-    let text = r#"{"name": "b", "small": 255, "least": -9223372036854775808, "cents": 19.9,
-        "flag": false, "lists": [[1, 2], []], "a/b~c": {"x": 80}}"#;
-    let all: Sample = decode::from_text(alloc, text)?;
-    expect_eq(&rt, "name", all.name.as_str(), "b");
-    expect_eq(&rt, "small", all.small, 255);
-    expect_eq(&rt, "least", all.least, i64::MIN);
-    expect_eq(&rt, "cents", all.cents, Some(1990));
-    expect_eq(&rt, "flag", all.flag, false);
-    expect_eq(&rt, "lists", all.lists.len(), 2);
-    expect_eq(&rt, "ports", all.ports.len(), 1);
+fn reads_under_refusals(rt: HostRuntime) -> Tested {
+    for (text, kind, count, pointer) in ALLOCATING {
+        let value = jzon::parse(rt.alloc(), text)?;
+        let mut refusals = Refusals::new(rt.alloc());
+        for _ in 0..RUNS_MAX {
+            refusals.open();
+            let has_failed = run(&rt, &value, *kind, *pointer, &mut refusals)?;
+            refusals.close();
+            if !has_failed {
+                break;
+            }
+        }
+        refusals.report(&rt, text, *count)?;
+    }
     Ok(())
 }

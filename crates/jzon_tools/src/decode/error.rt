@@ -1,55 +1,58 @@
-//! Why a value can't be read as a type.
+//! Why a text or a value can't be read as a type.
 
-ghost use Rattle.std.specs.Prelude.{◌≡◌, None, Some, IfOk, false, true, map, slice_get};
+ghost use Rattle.std.specs.Prelude.{◌≡◌, None, Some, IfOk, false, true, chars, length, map, slice_get};
 ghost use Rattle.std.specs.Option.{is_some};
 ghost use Rattle.std.specs.IoError.{error_kind};
 ghost use Rattle.jzon.specs.PairList.{find};
-ghost use Rattle.jzon.specs.Readers.{entries, is_object, items};
+ghost use Rattle.jzon.specs.Readers.{entries, is_object, items, text_in};
 ghost use Rattle.jzon.specs.Value.{Value};
 ghost use Rattle.jzon.specs.View.{view};
-ghost use Rattle.jzon_tools.specs.Decode.{moved_to, pointer_of, IsErrorIn};
+ghost use Rattle.jzon_tools.specs.Decode.{error_of, located_error, moved_to, pointer_of, IsErrorIn};
+ghost use Rattle.jzon_tools.specs.DecodeExpected.{Refuses};
 ghost use Rattle.jzon_tools.specs.DecodeFound.{FoundIs};
-ghost use Rattle.jzon_tools.specs.DecodeWanted.{Refuses};
+ghost use Rattle.jzon_tools.specs.DecodeText.{decode_error_kind, decode_error_text, expected_text, found_text};
 ghost use Rattle.jzon_tools.specs.Redact.{is_among};
-ghost use Rattle.jzon_tools.specs.declared.decode.error.DecodeError.TheVariants.{Json};
-ghost use Rattle.jzon.specs.Error.TheVariants.{OutOfMemory};
+ghost use Rattle.jzon_tools.specs.declared.decode.error.DecodeError.TheVariants.{OutOfMemory};
 
 use super::path;
-use arrayvec::ArrayString;
+use super::shown::{show_names, show_place, show_text};
 use jzon::number::Number;
-use jzon::{Error, JsonValue};
+use jzon::{Error, JsonValue, LocatedError, io_error};
 use std::alloc::{AllocError, AllocFailed, Global};
-use std::fmt::Write;
 use std::io::ErrorKind;
 use std::result::Result;
 use std::{fmt, io};
 
-/// Why a value can't be read as a type. Each pointer leads from the value that was read.
+/// Why a text or a value can't be read as a type. A pointer leads from the value that was read.
 #[derive(Debug, Drop)]
 pub enum DecodeError {
-    /// The text is no JSON, or an allocation failed.
-    Json(Error),
-    /// The value at the pointer isn't what is wanted.
+    /// The text isn't JSON, or its reading rejects it. Printed with its line and column.
+    Text(LocatedError),
+    /// An allocation failed.
+    OutOfMemory,
+    /// The value at the pointer isn't what is expected: `/a/0: expected a string, found 7`.
     Wrong {
         pointer: String,
-        wanted: Wanted,
+        expected: Expected,
         found: Found,
     },
-    /// The pointer's last key is missing in the object before it.
+    /// The pointer's last key is missing in its object: `/host: missing, expected a string`.
     Missing {
         pointer: String,
-        wanted: Wanted,
+        expected: Expected,
     },
-    /// The pointer's last key isn't among the names that its object may have.
+    /// The pointer's last key isn't a known one: `/hots: unknown key, expected host, port`.
     Unknown {
         pointer: String,
-        names: &'static [&'static str],
+        known: Known,
     },
 }
 
 /// What a value must be.
 #[derive(Clone, Copy, Debug, PartialEq, Eq)]
-pub enum Wanted {
+pub enum Expected {
+    /// Any value: of a missing entry whose type takes null.
+    Value,
     String,
     Boolean,
     Number,
@@ -67,72 +70,73 @@ pub enum Wanted {
     Fixed(u16),
     /// An array of at most this many elements.
     AtMost(usize),
-    /// What a caller's own test wants, in its words.
+    /// What a caller's own test expects, in its words.
     Other(&'static str),
 }
 
-/// What is there instead.
+/// What is there instead. It has no more than `LONGEST` characters of the value.
 #[derive(Debug, Drop)]
 pub enum Found {
     Null,
     Boolean(bool),
     Number(Number),
+    /// A string of at most `LONGEST` characters.
     String(String),
+    /// A longer string, of this many characters.
+    LongString(usize),
     /// An array of this many elements.
     Array(usize),
-    Object,
+    /// An object of this many entries.
+    Object(usize),
 }
 
+/// The keys that an object may have, as they are written in a program.
+pub type Known = &'static [&'static str];
+
+/// How many characters of a string an error repeats at most.
+pub const LONGEST: usize = 40;
+
 impl DecodeError {
-    /// The error of a value that a caller's own test refuses, as that of a reader for an enum. The
-    /// words say what it wants.
-    ///
-    /// ```rust
-    /// match value.as_str() {
-    ///     Some("debug") => Ok(Level::Debug),
-    ///     Some("info") => Ok(Level::Info),
-    ///     _ => Err(DecodeError::unlike(alloc, value, "\"debug\" or \"info\"")),
-    /// }
-    /// ```
-    pub fn unlike(alloc: Global, value: &JsonValue, wanted: &'static str) -> DecodeError
+    /// The error of a value that a caller's own test refuses. The words say what it expects.
+    pub fn expected(alloc: Global, value: &JsonValue, expected: &'static str) -> DecodeError
         ensures { IsErrorIn (view value.now) result }
     {
-        DecodeError::wrong(alloc, value, Wanted::Other(wanted))
+        DecodeError::wrong(alloc, value, Expected::Other(expected))
     }
 
-    /// The error of a value that isn't what is wanted.
-    pub fn wrong(alloc: Global, value: &JsonValue, wanted: Wanted) -> DecodeError
-        ensures { Refuses wanted (view value.now) → IsErrorIn (view value.now) result }
+    /// The error of a value that isn't what is expected.
+    pub(super) fn wrong(alloc: Global, value: &JsonValue, expected: Expected) -> DecodeError
+        ensures { Refuses expected (view value.now) → IsErrorIn (view value.now) result }
     {
         match describe(alloc, value) {
             Ok(found) => DecodeError::Wrong {
                 pointer: String::new(alloc),
-                wanted,
+                expected,
                 found,
             },
-            Err(_refused) => DecodeError::Json(Error::OutOfMemory),
+            Err(_refused) => DecodeError::OutOfMemory,
         }
     }
 
     /// The error of an object that lacks the key.
-    pub fn missing(alloc: Global, key: &str, wanted: Wanted) -> DecodeError
+    pub(super) fn missing(alloc: Global, key: &str, expected: Expected) -> DecodeError
         ensures { (v : Value) → is_object v ≡ true → find key.now (entries v) ≡ None
             → IsErrorIn v result }
     {
         match path::below_key(alloc, key, "") {
-            Ok(pointer) => DecodeError::Missing { pointer, wanted },
-            Err(_refused) => DecodeError::Json(Error::OutOfMemory),
+            Ok(pointer) => DecodeError::Missing { pointer, expected },
+            Err(_refused) => DecodeError::OutOfMemory,
         }
     }
 
     /// The error of an object with a key that isn't among the names.
-    pub fn unknown(alloc: Global, key: &str, names: &'static [&'static str]) -> DecodeError
+    pub(super) fn unknown(alloc: Global, key: &str, known: Known) -> DecodeError
         ensures { (v : Value) → is_object v ≡ true → is_some (find key.now (entries v)) ≡ true
-            → is_among (map (λ n. n.now) names.now) key.now ≡ false → IsErrorIn v result }
+            → is_among (map (λ n. n.now) known.now) key.now ≡ false → IsErrorIn v result }
     {
         match path::below_key(alloc, key, "") {
-            Ok(pointer) => DecodeError::Unknown { pointer, names },
-            Err(_refused) => DecodeError::Json(Error::OutOfMemory),
+            Ok(pointer) => DecodeError::Unknown { pointer, known },
+            Err(_refused) => DecodeError::OutOfMemory,
         }
     }
 
@@ -143,7 +147,7 @@ impl DecodeError {
     {
         match path::below_key(alloc, key, self.pointer()) {
             Ok(pointer) => self.moved(pointer),
-            Err(_refused) => DecodeError::Json(Error::OutOfMemory),
+            Err(_refused) => DecodeError::OutOfMemory,
         }
     }
 
@@ -154,7 +158,7 @@ impl DecodeError {
     {
         match path::below_index(alloc, index, self.pointer()) {
             Ok(pointer) => self.moved(pointer),
-            Err(_refused) => DecodeError::Json(Error::OutOfMemory),
+            Err(_refused) => DecodeError::OutOfMemory,
         }
     }
 
@@ -163,7 +167,7 @@ impl DecodeError {
         ensures { result.now ≡ pointer_of self.now }
     {
         match self {
-            DecodeError::Json(_) => "",
+            DecodeError::Text(_) | DecodeError::OutOfMemory => "",
             DecodeError::Wrong { pointer, .. } => pointer.as_str(),
             DecodeError::Missing { pointer, .. } => pointer.as_str(),
             DecodeError::Unknown { pointer, .. } => pointer.as_str(),
@@ -175,32 +179,33 @@ impl DecodeError {
         ensures { result ≡ moved_to self to }
     {
         match self {
-            DecodeError::Json(error) => DecodeError::Json(error),
+            DecodeError::Text(error) => DecodeError::Text(error),
+            DecodeError::OutOfMemory => DecodeError::OutOfMemory,
             DecodeError::Wrong {
                 pointer: _from,
-                wanted,
+                expected,
                 found,
             } => DecodeError::Wrong {
                 pointer: to,
-                wanted,
+                expected,
                 found,
             },
             DecodeError::Missing {
                 pointer: _from,
-                wanted,
+                expected,
             } => DecodeError::Missing {
                 pointer: to,
-                wanted,
+                expected,
             },
             DecodeError::Unknown {
                 pointer: _from,
-                names,
-            } => DecodeError::Unknown { pointer: to, names },
+                known,
+            } => DecodeError::Unknown { pointer: to, known },
         }
     }
 }
 
-/// What a value is, for a person. Of a string its text.
+/// What a value is.
 #[tactic(auto, using(crate::proofs::DecodeViews::describing))]
 fn describe(alloc: Global, value: &JsonValue) -> Result<Found, AllocError>
     ensures { IfOk result (λ f. FoundIs f (view value.now)) }
@@ -209,140 +214,168 @@ fn describe(alloc: Global, value: &JsonValue) -> Result<Found, AllocError>
         JsonValue::Null => Ok(Found::Null),
         JsonValue::Boolean(truth) => Ok(Found::Boolean(*truth)),
         JsonValue::Number(number) => Ok(Found::Number(*number)),
-        JsonValue::Short(text) => {
-            let copy = String::from_str(alloc, text.as_str())?;
-            Ok(Found::String(copy))
-        }
-        JsonValue::String(text) => {
-            let copy = String::from_str(alloc, text.as_str())?;
-            Ok(Found::String(copy))
-        }
+        JsonValue::Short(text) => describe_string(alloc, text.as_str()),
+        JsonValue::String(text) => describe_string(alloc, text.as_str()),
         JsonValue::Array(items) => Ok(Found::Array(items.len())),
-        JsonValue::Object(_) => Ok(Found::Object),
+        JsonValue::Object(object) => Ok(Found::Object(object.len())),
     }
 }
 
+/// A copy of the string, or how long it is.
+fn describe_string(alloc: Global, text: &str) -> Result<Found, AllocError>
+    ensures { IfOk result (λ f. (v : Value) → text_in v ≡ Some text.now → FoundIs f v) }
+{
+    let count = text.chars().count();
+    if count > LONGEST {
+        return Ok(Found::LongString(count));
+    }
+    Ok(Found::String(String::from_str(alloc, text)?))
+}
+
+/// One line, in which control characters and those from U+007F to U+009F are escaped. Widths and
+/// other flags are ignored.
 impl fmt::Display for DecodeError {
+    ghost output = { λ e. Some (decode_error_text e) };
+
     fn fmt<W: fmt::Write>(&self, f: &mut fmt::Formatter<W>) -> fmt::Result {
         match self {
-            DecodeError::Json(error) => write!(f, "{error}"),
+            DecodeError::Text(error) => write!(f, "{error}"),
+            DecodeError::OutOfMemory => f.write_str("Out of memory"),
             DecodeError::Wrong {
                 pointer,
-                wanted,
+                expected,
                 found,
             } => {
-                if !pointer.is_empty() {
-                    write!(f, "{pointer}: ")?;
-                }
-                write!(f, "expected {wanted}, found {found}")
+                show_place(f, pointer.as_str())?;
+                write!(f, "expected {expected}, found {found}")
             }
-            DecodeError::Missing { pointer, wanted } => {
-                write!(f, "{pointer}: missing, expected {wanted}")
+            DecodeError::Missing { pointer, expected } => {
+                show_text(f, pointer.as_str())?;
+                write!(f, ": missing, expected {expected}")
             }
-            DecodeError::Unknown { pointer, names } => {
-                write!(f, "{pointer}: unknown key, expected ")?;
-                write_names(f, names)
+            DecodeError::Unknown { pointer, known } => {
+                show_text(f, pointer.as_str())?;
+                f.write_str(": unknown key, expected ")?;
+                show_names(f, known)
             }
         }
     }
 }
 
-/// The names, with `or` before the last.
-fn write_names<W: fmt::Write>(f: &mut fmt::Formatter<W>, names: &[&str]) -> fmt::Result {
-    if names.is_empty() {
-        return f.write_str("none");
-    }
-    for (index, name) in names.iter().enumerate() {
-        if index > 0 {
-            f.write_str(", ")?;
-        }
-        f.write_str(*name)?;
-    }
-    Ok(())
-}
+impl fmt::Display for Expected {
+    ghost output = { λ e. Some (expected_text e) };
 
-impl fmt::Display for Wanted {
     fn fmt<W: fmt::Write>(&self, f: &mut fmt::Formatter<W>) -> fmt::Result {
         match self {
-            Wanted::String => f.write_str("a string"),
-            Wanted::Boolean => f.write_str("true or false"),
-            Wanted::Number => f.write_str("a number"),
-            Wanted::Array => f.write_str("an array"),
-            Wanted::Object => f.write_str("an object"),
-            Wanted::U8 => f.write_str("an integer from 0 to 255"),
-            Wanted::U16 => f.write_str("an integer from 0 to 65535"),
-            Wanted::U32 => f.write_str("an integer from 0 to 4294967295"),
-            Wanted::U64 => f.write_str("an integer from 0 to 18446744073709551615"),
-            Wanted::I8 => f.write_str("an integer from -128 to 127"),
-            Wanted::I16 => f.write_str("an integer from -32768 to 32767"),
-            Wanted::I32 => f.write_str("an integer from -2147483648 to 2147483647"),
-            Wanted::I64 => {
+            Expected::Value => f.write_str("a value"),
+            Expected::String => f.write_str("a string"),
+            Expected::Boolean => f.write_str("true or false"),
+            Expected::Number => f.write_str("a number"),
+            Expected::Array => f.write_str("an array"),
+            Expected::Object => f.write_str("an object"),
+            Expected::U8 => f.write_str("an integer from 0 to 255"),
+            Expected::U16 => f.write_str("an integer from 0 to 65535"),
+            Expected::U32 => f.write_str("an integer from 0 to 4294967295"),
+            Expected::U64 => f.write_str("an integer from 0 to 18446744073709551615"),
+            Expected::I8 => f.write_str("an integer from -128 to 127"),
+            Expected::I16 => f.write_str("an integer from -32768 to 32767"),
+            Expected::I32 => f.write_str("an integer from -2147483648 to 2147483647"),
+            Expected::I64 => {
                 f.write_str("an integer from -9223372036854775808 to 9223372036854775807")
             }
-            Wanted::Fixed(0) => f.write_str("an integer"),
-            Wanted::Fixed(point) => {
+            Expected::Fixed(0) => f.write_str("an integer"),
+            Expected::Fixed(1) => f.write_str("a number with at most 1 digit after the point"),
+            Expected::Fixed(point) => {
                 write!(f, "a number with at most {point} digits after the point")
             }
-            Wanted::AtMost(most) => write!(f, "an array of at most {most} elements"),
-            Wanted::Other(words) => f.write_str(*words),
+            Expected::AtMost(1) => f.write_str("an array of at most 1 element"),
+            Expected::AtMost(most) => write!(f, "an array of at most {most} elements"),
+            Expected::Other(words) => f.write_str(*words),
         }
     }
 }
 
 impl fmt::Display for Found {
+    ghost output = { λ found. Some (found_text found) };
+
     fn fmt<W: fmt::Write>(&self, f: &mut fmt::Formatter<W>) -> fmt::Result {
         match self {
             Found::Null => f.write_str("null"),
-            Found::Boolean(truth) => write!(f, "{truth}"),
+            Found::Boolean(true) => f.write_str("true"),
+            Found::Boolean(false) => f.write_str("false"),
             Found::Number(number) => write!(f, "{number}"),
-            Found::String(text) => write!(f, "\"{text}\""),
+            Found::String(text) => {
+                f.write_str("\"")?;
+                show_text(f, text.as_str())?;
+                f.write_str("\"")
+            }
+            Found::LongString(count) => write!(f, "a string of {count} characters"),
             Found::Array(0) => f.write_str("an empty array"),
             Found::Array(1) => f.write_str("an array of 1 element"),
             Found::Array(count) => write!(f, "an array of {count} elements"),
-            Found::Object => f.write_str("an object"),
+            Found::Object(0) => f.write_str("an empty object"),
+            Found::Object(1) => f.write_str("an object of 1 entry"),
+            Found::Object(count) => write!(f, "an object of {count} entries"),
         }
     }
 }
 
 impl std::error::Error for DecodeError {}
 
+/// So that `?` works on what parses a text.
+impl From<LocatedError> for DecodeError {
+    ghost from_gives = { λ l e. e ≡ located_error l };
+
+    fn from(located: LocatedError) -> DecodeError {
+        match located.error {
+            Error::OutOfMemory => DecodeError::OutOfMemory,
+            error => DecodeError::Text(LocatedError {
+                error,
+                place: located.place,
+            }),
+        }
+    }
+}
+
+/// So that `?` works on a call of `jzon`.
 impl From<Error> for DecodeError {
-    ghost from_gives = { λ e d. d ≡ Json e };
+    ghost from_gives = { λ e d. d ≡ error_of e };
 
     fn from(error: Error) -> DecodeError {
-        DecodeError::Json(error)
+        DecodeError::from(LocatedError { error, place: None })
     }
 }
 
+/// So that `?` after a call of std returns `OutOfMemory`.
 impl From<AllocError> for DecodeError {
-    ghost from_gives = { λ _ d. d ≡ Json OutOfMemory };
+    ghost from_gives = { λ _ e. e ≡ OutOfMemory };
 
     fn from(_refused: AllocError) -> DecodeError {
-        DecodeError::Json(Error::OutOfMemory)
+        DecodeError::OutOfMemory
     }
 }
 
+/// What was to be stored, and came back with the error, is dropped.
 impl<T: Drop> From<AllocFailed<T>> for DecodeError {
-    ghost from_gives = { λ _ d. d ≡ Json OutOfMemory };
+    ghost from_gives = { λ _ e. e ≡ OutOfMemory };
 
     fn from(_refused: AllocFailed<T>) -> DecodeError {
-        DecodeError::Json(Error::OutOfMemory)
+        DecodeError::OutOfMemory
     }
 }
 
-/// So that `?` works in a `main` that returns an `io::Result`. The kind is that of a `jzon::Error`,
-/// or else `InvalidData`. The message is what `Display` prints, cut after 80 bytes.
+/// So that `?` works in a `main` that returns an `io::Result`. The kind is that of the text's error,
+/// `OutOfMemory`, or else `InvalidData`. The message is what `Display` prints, as far as 80 bytes
+/// hold it: of a long one the pointer is kept, and its end is left out.
 impl From<DecodeError> for io::Error {
+    ghost from_gives = { λ e i. error_kind i ≡ decode_error_kind e };
+
     fn from(error: DecodeError) -> io::Error {
-        match error {
-            DecodeError::Json(error) => io::Error::from(error),
-            error => {
-                let mut words = ArrayString::<80>::new();
-                match write!(words, "{error}") {
-                    Ok(()) | Err(_) => {}
-                }
-                io::Error::new(ErrorKind::InvalidData, words.as_str())
-            }
-        }
+        let kind = match &error {
+            DecodeError::Text(located) => located.error.io_kind(),
+            DecodeError::OutOfMemory => ErrorKind::OutOfMemory,
+            _ => ErrorKind::InvalidData,
+        };
+        io_error(kind, &error)
     }
 }

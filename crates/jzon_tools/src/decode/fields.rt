@@ -9,25 +9,28 @@ ghost use Rattle.jzon.specs.Readers.{count, entries, exact_fixed_point_in, is_ob
 ghost use Rattle.jzon.specs.Value.{Value};
 ghost use Rattle.jzon.specs.View.{view};
 ghost use Rattle.jzon_tools.specs.Decode.{IsErrorIn};
-ghost use Rattle.jzon_tools.specs.DecodeFields.{IsAbsent, AllAmong, read_from};
-ghost use Rattle.jzon_tools.specs.DecodeWanted.{Refuses};
+ghost use Rattle.jzon_tools.specs.DecodeFields.{IsAbsent, AllAmong, ReadsEntry, read_from};
+ghost use Rattle.jzon_tools.specs.DecodeExpected.{Refuses};
 ghost use Rattle.jzon_tools.specs.Redact.{is_among};
 
-use super::{DecodeError, FromJson, Wanted};
+use super::{DecodeError, Expected, FromJson, Known};
 use jzon::JsonValue;
 use jzon::object::Object;
 use std::alloc::Global;
 use std::result::Result;
 
-/// An object that is read by its keys.
+/// An object that is read by its keys. The pointer of an error leads from this object. For another
+/// one that is read beside it, put the key before by `DecodeError::below_key`.
 #[derive(Clone, Copy)]
 pub struct Fields<'v> {
+    /// What allocates the results and the errors.
     pub alloc: Global,
+    /// The object itself.
     pub object: &'v Object,
 }
 
 impl<'v> Fields<'v> {
-    /// The entries of a value that must be an object.
+    /// The entries of a value, which must be an object.
     pub fn of(alloc: Global, value: &'v JsonValue) -> Result<Fields<'v>, DecodeError>
         ensures value { IfOk result (λ f. read_from f ≡ view value.now) }
         ensures error { IfErr result (IsErrorIn (view value.now)) }
@@ -35,55 +38,56 @@ impl<'v> Fields<'v> {
     {
         match value {
             JsonValue::Object(object) => Ok(Fields { alloc, object }),
-            _ => Err(DecodeError::wrong(alloc, value, Wanted::Object)),
+            _ => Err(DecodeError::wrong(alloc, value, Expected::Object)),
         }
     }
 
-    /// The entries of a value that must be an object with no other keys than these.
+    /// The entries of a value, which must be an object without other keys than the known ones. Of
+    /// others the first is reported.
     pub fn only(
         alloc: Global,
         value: &'v JsonValue,
-        names: &'static [&'static str],
+        known: Known,
     ) -> Result<Fields<'v>, DecodeError>
         ensures value { IfOk result (λ f. read_from f ≡ view value.now) }
         ensures error { IfErr result (IsErrorIn (view value.now)) }
         ensures accepts { IsOk result ↔ ((is_object (view value.now) ≡ true)
-            × AllAmong (map (λ n. n.now) names.now) (view value.now)) }
+            × AllAmong (map (λ n. n.now) known.now) (view value.now)) }
     {
         let fields = Fields::of(alloc, value)?;
-        fields.admit(names)?;
+        fields.deny_unknown(known)?;
         Ok(fields)
     }
 
-    /// Fails if there is a key that isn't among the names.
-    pub fn admit(&self, names: &'static [&'static str]) -> Result<(), DecodeError>
+    /// Fails if a key isn't among the known ones. Called before an entry is read, it reports a
+    /// misspelt key as unknown, and not the right one as missing.
+    pub fn deny_unknown(&self, known: Known) -> Result<(), DecodeError>
         ensures error { IfErr result (IsErrorIn (read_from self.now)) }
-        ensures accepts { IsOk result ↔ AllAmong (map (λ n. n.now) names.now) (read_from self.now) }
+        ensures accepts { IsOk result ↔ AllAmong (map (λ n. n.now) known.now) (read_from self.now) }
     {
-        match stranger(self.object, names) {
-            Some(key) => Err(DecodeError::unknown(self.alloc, key, names)),
+        match unknown_key(self.object, known) {
+            Some(key) => Err(DecodeError::unknown(self.alloc, key, known)),
             None => Ok(()),
         }
     }
 
-    /// The entry's value, read as a type.
+    /// The value of the entry with this key, read as a type. A missing entry is an error.
     pub fn read<T: FromJson>(&self, key: &str) -> Result<T, DecodeError>
-        ensures value { IfOk result (λ x. (w : Value)
-            × (find key.now (entries (read_from self.now)) ≡ Some w) × T.gives w x) }
+        ensures value { IfOk result (ReadsEntry self.now key.now T.gives) }
         ensures error { IfErr result (IsErrorIn (read_from self.now)) }
     {
         match self.entry(key) {
             Some(value) => self.below(key, value),
-            None => Err(DecodeError::missing(self.alloc, key, T::wanted())),
+            None => Err(DecodeError::missing(self.alloc, key, expected_of::<T>(self.alloc))),
         }
     }
 
-    /// The same, or the default if the entry is missing or null.
+    /// The same, or the default if the entry is missing, or null: so a later layer of a
+    /// configuration can unset it (`merge::layer`). Elsewhere null isn't taken for missing.
     pub fn read_or<T: FromJson>(&self, key: &str, default: T) -> Result<T, DecodeError>
         ensures value { IfOk result (λ x.
             (IsAbsent (find key.now (entries (read_from self.now))) × (x ≡ default))
-            ⊎ ((w : Value) × (find key.now (entries (read_from self.now)) ≡ Some w)
-            × T.gives w x)) }
+            ⊎ ReadsEntry self.now key.now T.gives x) }
         ensures error { IfErr result (IsErrorIn (read_from self.now)) }
     {
         match self.present(key) {
@@ -96,75 +100,68 @@ impl<'v> Fields<'v> {
     pub fn optional<T: FromJson>(&self, key: &str) -> Result<Option<T>, DecodeError>
         ensures none { IfOk result (λ o. o ≡ None
             → IsAbsent (find key.now (entries (read_from self.now)))) }
-        ensures some { IfOk result (λ o. IfSome o (λ x. (w : Value)
-            × (find key.now (entries (read_from self.now)) ≡ Some w) × T.gives w x)) }
+        ensures some { IfOk result (λ o. IfSome o (ReadsEntry self.now key.now T.gives)) }
         ensures error { IfErr result (IsErrorIn (read_from self.now)) }
     {
         match self.present(key) {
-            Some(value) => match self.below(key, value) {
-                Ok(read) => Ok(Some(read)),
-                Err(error) => Err(error),
-            },
+            Some(value) => Ok(Some(self.below(key, value)?)),
             None => Ok(None),
         }
     }
 
-    /// The entry's string, which isn't copied.
+    /// The entry's string, which isn't copied: it borrows the value.
     pub fn str(&self, key: &str) -> Result<&'v str, DecodeError>
-        ensures value { IfOk result (λ s. (w : Value)
-            × (find key.now (entries (read_from self.now)) ≡ Some w)
-            × (text_in w ≡ Some s.now)) }
+        ensures value { IfOk result (ReadsEntry self.now key.now (λ w s. text_in w ≡ Some s.now)) }
         ensures error { IfErr result (IsErrorIn (read_from self.now)) }
     {
         let Some(value) = self.entry(key) else {
-            return Err(DecodeError::missing(self.alloc, key, Wanted::String));
+            return Err(DecodeError::missing(self.alloc, key, Expected::String));
         };
         match value.as_str() {
             Some(text) => Ok(text),
-            None => Err(self.wrong(key, value, Wanted::String)),
+            None => Err(self.wrong(key, value, Expected::String)),
         }
     }
 
-    /// The entry's number as an integer of units of the last of so many digits after the point:
-    /// with 2, `19.9` is 1990.
+    /// The entry's number with the point moved right by `point` digits: with 2, `19.9` is 1990. A
+    /// number with more digits after the point is an error.
     pub fn fixed_point(&self, key: &str, point: u16) -> Result<i64, DecodeError>
-        ensures value { IfOk result (λ n. (w : Value)
-            × (find key.now (entries (read_from self.now)) ≡ Some w)
-            × (exact_fixed_point_in w point ≡ Some n)) }
+        ensures value { IfOk result (ReadsEntry self.now key.now
+            (λ w n. exact_fixed_point_in w point ≡ Some n)) }
         ensures error { IfErr result (IsErrorIn (read_from self.now)) }
     {
         let Some(value) = self.entry(key) else {
-            return Err(DecodeError::missing(self.alloc, key, Wanted::Fixed(point)));
+            return Err(DecodeError::missing(self.alloc, key, Expected::Fixed(point)));
         };
         match value.as_exact_fixed_point_i64(point) {
             Some(units) => Ok(units),
-            None => Err(self.wrong(key, value, Wanted::Fixed(point))),
+            None => Err(self.wrong(key, value, Expected::Fixed(point))),
         }
     }
 
-    /// The entry's array, of at most so many elements, read as a list.
+    /// The entry's array, of at most `most` elements, as a list. A longer one is refused before an
+    /// element is read.
     pub fn list<T: FromJson>(&self, key: &str, most: usize) -> Result<Vec<T>, DecodeError>
-        ensures value { IfOk result (λ xs. (w : Value)
-            × (find key.now (entries (read_from self.now)) ≡ Some w)
-            × ⟦<Vec<T> as FromJson>⟧.gives w xs × (count w ≤ most)) }
+        ensures value { IfOk result (ReadsEntry self.now key.now
+            (λ w xs. ⟦<Vec<T> as FromJson>⟧.gives w xs × (count w ≤ most))) }
         ensures error { IfErr result (IsErrorIn (read_from self.now)) }
     {
         let Some(value) = self.entry(key) else {
-            return Err(DecodeError::missing(self.alloc, key, Wanted::AtMost(most)));
+            return Err(DecodeError::missing(self.alloc, key, Expected::AtMost(most)));
         };
         if value.len() > most {
-            return Err(self.wrong(key, value, Wanted::AtMost(most)));
+            return Err(self.wrong(key, value, Expected::AtMost(most)));
         }
         self.below(key, value)
     }
 
-    /// The error of an entry that a caller's own test refuses: the words say what it wants.
-    pub fn unlike(&self, key: &str, wanted: &'static str) -> DecodeError
+    /// The error of an entry that a caller's own test refuses. The words say what it expects.
+    pub fn expected(&self, key: &str, expected: &'static str) -> DecodeError
         ensures { IsErrorIn (read_from self.now) result }
     {
         match self.entry(key) {
-            Some(value) => self.wrong(key, value, Wanted::Other(wanted)),
-            None => DecodeError::missing(self.alloc, key, Wanted::Other(wanted)),
+            Some(value) => self.wrong(key, value, Expected::Other(expected)),
+            None => DecodeError::missing(self.alloc, key, Expected::Other(expected)),
         }
     }
 
@@ -203,18 +200,26 @@ impl<'v> Fields<'v> {
         }
     }
 
-    /// The error of the entry with this key, whose value isn't what is wanted.
-    fn wrong(&self, key: &str, value: &JsonValue, wanted: Wanted) -> DecodeError
+    /// The error of the entry with this key, whose value isn't what is expected.
+    fn wrong(&self, key: &str, value: &JsonValue, expected: Expected) -> DecodeError
         requires entry { find key.now (entries (read_from self.now)) ≡ Some (view value.now) }
-        requires refused { Refuses wanted (view value.now) }
+        requires refused { Refuses expected (view value.now) }
         ensures { IsErrorIn (read_from self.now) result }
     {
-        DecodeError::wrong(self.alloc, value, wanted).below_key(self.alloc, key)
+        DecodeError::wrong(self.alloc, value, expected).below_key(self.alloc, key)
+    }
+}
+
+/// What the error of a missing entry says is expected: what the type expects in place of null.
+fn expected_of<T: FromJson>(alloc: Global) -> Expected {
+    match T::from_json(alloc, &JsonValue::Null) {
+        Err(DecodeError::Wrong { expected, .. }) => expected,
+        _ => Expected::Value,
     }
 }
 
 /// The first key that isn't among the names.
-fn stranger<'v>(object: &'v Object, names: &[&str]) -> Option<&'v str>
+fn unknown_key<'v>(object: &'v Object, names: &[&str]) -> Option<&'v str>
     ensures { option_copied result ≡ first (λ k. not (is_among (map (λ n. n.now) names.now) k))
         (keys_of (entries_of object.now)) }
 {

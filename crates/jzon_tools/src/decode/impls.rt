@@ -1,17 +1,39 @@
 //! How the types of std are read.
 
-ghost use Rattle.std.specs.Prelude.{◌≡◌, Some, string_bytes, true, MatchOption};
+ghost use Rattle.std.specs.Prelude.{◌≡◌, None, Some, string_bytes, true, IfErr, IfOk, MatchOption};
 ghost use Rattle.std.specs.List.{AllZip};
-ghost use Rattle.jzon.specs.Readers.{integer_in, is_array, items, number_in, text_in, truth_in, unsigned_in};
+ghost use Rattle.std.specs.BTreeMap as tree;
+ghost use Rattle.std.specs.HashMap as hash;
+ghost use Rattle.jzon.specs.Readers.{integer_in, is_array, is_object, items, number_in, text_in, truth_in, unsigned_in};
 ghost use Rattle.jzon.specs.Value.{null};
 ghost use Rattle.jzon.specs.View.{view};
+ghost use Rattle.jzon_tools.specs.Decode.{IsErrorIn};
+ghost use Rattle.jzon_tools.specs.DecodeExpected.{Refuses};
+ghost use Rattle.jzon_tools.specs.DecodeMaps.{ReadsEntries};
 
-use super::{DecodeError, Fields, FromJson, Wanted};
+use super::{DecodeError, Expected, Fields, FromJson};
 use jzon::JsonValue;
 use jzon::number::Number;
 use std::alloc::Global;
-use std::collections::BTreeMap;
+use std::collections::{BTreeMap, HashMap};
 use std::result::Result;
+
+/// What was read, or the error of a value that isn't what is expected.
+fn or_wrong<T>(
+    alloc: Global,
+    value: &JsonValue,
+    read: Option<T>,
+    expected: Expected,
+) -> Result<T, DecodeError>
+    requires { read ≡ None → Refuses expected (view value.now) }
+    ensures value { IfOk result (λ x. read ≡ Some x) }
+    ensures error { IfErr result (IsErrorIn (view value.now)) }
+{
+    match read {
+        Some(read) => Ok(read),
+        None => Err(DecodeError::wrong(alloc, value, expected)),
+    }
+}
 
 /// A copy of the value.
 impl FromJson for JsonValue {
@@ -19,10 +41,6 @@ impl FromJson for JsonValue {
 
     fn from_json(alloc: Global, value: &JsonValue) -> Result<JsonValue, DecodeError> {
         Ok(value.clone(alloc)?)
-    }
-
-    fn wanted() -> Wanted {
-        Wanted::Other("any value")
     }
 }
 
@@ -32,12 +50,8 @@ impl FromJson for String {
     fn from_json(alloc: Global, value: &JsonValue) -> Result<String, DecodeError> {
         match value.as_str() {
             Some(text) => Ok(String::from_str(alloc, text)?),
-            None => Err(DecodeError::wrong(alloc, value, Wanted::String)),
+            None => Err(DecodeError::wrong(alloc, value, Expected::String)),
         }
-    }
-
-    fn wanted() -> Wanted {
-        Wanted::String
     }
 }
 
@@ -45,14 +59,7 @@ impl FromJson for bool {
     ghost gives = { λ v b. truth_in v ≡ Some b };
 
     fn from_json(alloc: Global, value: &JsonValue) -> Result<bool, DecodeError> {
-        match value.as_bool() {
-            Some(truth) => Ok(truth),
-            None => Err(DecodeError::wrong(alloc, value, Wanted::Boolean)),
-        }
-    }
-
-    fn wanted() -> Wanted {
-        Wanted::Boolean
+        or_wrong(alloc, value, value.as_bool(), Expected::Boolean)
     }
 }
 
@@ -60,14 +67,7 @@ impl FromJson for Number {
     ghost gives = { λ v n. number_in v ≡ Some n };
 
     fn from_json(alloc: Global, value: &JsonValue) -> Result<Number, DecodeError> {
-        match value.as_number() {
-            Some(number) => Ok(number),
-            None => Err(DecodeError::wrong(alloc, value, Wanted::Number)),
-        }
-    }
-
-    fn wanted() -> Wanted {
-        Wanted::Number
+        or_wrong(alloc, value, value.as_number(), Expected::Number)
     }
 }
 
@@ -75,14 +75,7 @@ impl FromJson for u8 {
     ghost gives = { λ v n. unsigned_in v ≡ Some n };
 
     fn from_json(alloc: Global, value: &JsonValue) -> Result<u8, DecodeError> {
-        match value.as_u8() {
-            Some(integer) => Ok(integer),
-            None => Err(DecodeError::wrong(alloc, value, Wanted::U8)),
-        }
-    }
-
-    fn wanted() -> Wanted {
-        Wanted::U8
+        or_wrong(alloc, value, value.as_u8(), Expected::U8)
     }
 }
 
@@ -90,14 +83,7 @@ impl FromJson for u16 {
     ghost gives = { λ v n. unsigned_in v ≡ Some n };
 
     fn from_json(alloc: Global, value: &JsonValue) -> Result<u16, DecodeError> {
-        match value.as_u16() {
-            Some(integer) => Ok(integer),
-            None => Err(DecodeError::wrong(alloc, value, Wanted::U16)),
-        }
-    }
-
-    fn wanted() -> Wanted {
-        Wanted::U16
+        or_wrong(alloc, value, value.as_u16(), Expected::U16)
     }
 }
 
@@ -105,14 +91,7 @@ impl FromJson for u32 {
     ghost gives = { λ v n. unsigned_in v ≡ Some n };
 
     fn from_json(alloc: Global, value: &JsonValue) -> Result<u32, DecodeError> {
-        match value.as_u32() {
-            Some(integer) => Ok(integer),
-            None => Err(DecodeError::wrong(alloc, value, Wanted::U32)),
-        }
-    }
-
-    fn wanted() -> Wanted {
-        Wanted::U32
+        or_wrong(alloc, value, value.as_u32(), Expected::U32)
     }
 }
 
@@ -120,14 +99,7 @@ impl FromJson for u64 {
     ghost gives = { λ v n. unsigned_in v ≡ Some n };
 
     fn from_json(alloc: Global, value: &JsonValue) -> Result<u64, DecodeError> {
-        match value.as_u64() {
-            Some(integer) => Ok(integer),
-            None => Err(DecodeError::wrong(alloc, value, Wanted::U64)),
-        }
-    }
-
-    fn wanted() -> Wanted {
-        Wanted::U64
+        or_wrong(alloc, value, value.as_u64(), Expected::U64)
     }
 }
 
@@ -135,14 +107,7 @@ impl FromJson for usize {
     ghost gives = { λ v n. unsigned_in v ≡ Some n };
 
     fn from_json(alloc: Global, value: &JsonValue) -> Result<usize, DecodeError> {
-        match value.as_usize() {
-            Some(integer) => Ok(integer),
-            None => Err(DecodeError::wrong(alloc, value, Wanted::U64)),
-        }
-    }
-
-    fn wanted() -> Wanted {
-        Wanted::U64
+        or_wrong(alloc, value, value.as_usize(), Expected::U64)
     }
 }
 
@@ -150,14 +115,7 @@ impl FromJson for i8 {
     ghost gives = { λ v n. integer_in v ≡ Some n };
 
     fn from_json(alloc: Global, value: &JsonValue) -> Result<i8, DecodeError> {
-        match value.as_i8() {
-            Some(integer) => Ok(integer),
-            None => Err(DecodeError::wrong(alloc, value, Wanted::I8)),
-        }
-    }
-
-    fn wanted() -> Wanted {
-        Wanted::I8
+        or_wrong(alloc, value, value.as_i8(), Expected::I8)
     }
 }
 
@@ -165,14 +123,7 @@ impl FromJson for i16 {
     ghost gives = { λ v n. integer_in v ≡ Some n };
 
     fn from_json(alloc: Global, value: &JsonValue) -> Result<i16, DecodeError> {
-        match value.as_i16() {
-            Some(integer) => Ok(integer),
-            None => Err(DecodeError::wrong(alloc, value, Wanted::I16)),
-        }
-    }
-
-    fn wanted() -> Wanted {
-        Wanted::I16
+        or_wrong(alloc, value, value.as_i16(), Expected::I16)
     }
 }
 
@@ -180,14 +131,7 @@ impl FromJson for i32 {
     ghost gives = { λ v n. integer_in v ≡ Some n };
 
     fn from_json(alloc: Global, value: &JsonValue) -> Result<i32, DecodeError> {
-        match value.as_i32() {
-            Some(integer) => Ok(integer),
-            None => Err(DecodeError::wrong(alloc, value, Wanted::I32)),
-        }
-    }
-
-    fn wanted() -> Wanted {
-        Wanted::I32
+        or_wrong(alloc, value, value.as_i32(), Expected::I32)
     }
 }
 
@@ -195,14 +139,7 @@ impl FromJson for i64 {
     ghost gives = { λ v n. integer_in v ≡ Some n };
 
     fn from_json(alloc: Global, value: &JsonValue) -> Result<i64, DecodeError> {
-        match value.as_i64() {
-            Some(integer) => Ok(integer),
-            None => Err(DecodeError::wrong(alloc, value, Wanted::I64)),
-        }
-    }
-
-    fn wanted() -> Wanted {
-        Wanted::I64
+        or_wrong(alloc, value, value.as_i64(), Expected::I64)
     }
 }
 
@@ -210,14 +147,7 @@ impl FromJson for isize {
     ghost gives = { λ v n. integer_in v ≡ Some n };
 
     fn from_json(alloc: Global, value: &JsonValue) -> Result<isize, DecodeError> {
-        match value.as_isize() {
-            Some(integer) => Ok(integer),
-            None => Err(DecodeError::wrong(alloc, value, Wanted::I64)),
-        }
-    }
-
-    fn wanted() -> Wanted {
-        Wanted::I64
+        or_wrong(alloc, value, value.as_isize(), Expected::I64)
     }
 }
 
@@ -231,10 +161,6 @@ impl<T: FromJson> FromJson for Option<T> {
         }
         Ok(Some(T::from_json(alloc, value)?))
     }
-
-    fn wanted() -> Wanted {
-        T::wanted()
-    }
 }
 
 /// The elements of an array.
@@ -243,7 +169,7 @@ impl<T: FromJson> FromJson for Vec<T> {
 
     fn from_json(alloc: Global, value: &JsonValue) -> Result<Vec<T>, DecodeError> {
         let JsonValue::Array(items) = value else {
-            return Err(DecodeError::wrong(alloc, value, Wanted::Array));
+            return Err(DecodeError::wrong(alloc, value, Expected::Array));
         };
         let mut list = Vec::with_capacity(alloc, items.len())?;
         for (index, item) in items.iter().enumerate() {
@@ -254,20 +180,33 @@ impl<T: FromJson> FromJson for Vec<T> {
         }
         Ok(list)
     }
-
-    fn wanted() -> Wanted {
-        Wanted::Array
-    }
 }
 
 /// The entries of an object.
 impl<T: FromJson> FromJson for BTreeMap<String, T> {
+    ghost gives = { λ v m. (is_object v ≡ true) × ReadsEntries T.gives v (tree.get_by_text m) };
+
     fn from_json(alloc: Global, value: &JsonValue) -> Result<BTreeMap<String, T>, DecodeError> {
         let fields = Fields::of(alloc, value)?;
         let mut map = BTreeMap::new(alloc);
         for key in fields.object.keys() {
-            let read = fields.read(key)?;
-            map.insert(String::from_str(alloc, key)?, read)?;
+            let entry = fields.read(key)?;
+            map.insert(String::from_str(alloc, key)?, entry)?;
+        }
+        Ok(map)
+    }
+}
+
+/// The entries of an object.
+impl<T: FromJson> FromJson for HashMap<String, T> {
+    ghost gives = { λ v m. (is_object v ≡ true) × ReadsEntries T.gives v (hash.get_by_text m) };
+
+    fn from_json(alloc: Global, value: &JsonValue) -> Result<HashMap<String, T>, DecodeError> {
+        let fields = Fields::of(alloc, value)?;
+        let mut map = HashMap::new(alloc);
+        for key in fields.object.keys() {
+            let entry = fields.read(key)?;
+            map.insert(String::from_str(alloc, key)?, entry)?;
         }
         Ok(map)
     }

@@ -12,7 +12,8 @@ use std::result::Result;
 pub fn below_key(alloc: Global, key: &str, pointer: &str) -> Result<String, AllocError>
     ensures { IfOk result (λ t. string_bytes t ≡ 47 ∷ escaped key.now ++ pointer.now) }
 {
-    let mut text = String::new(alloc);
+    let room = key.len().saturating_add(pointer.len()).saturating_add(1);
+    let mut text = String::with_capacity(alloc, room)?;
     text.push_str("/")?;
     push_escaped(&mut text, key)?;
     text.push_str(pointer)?;

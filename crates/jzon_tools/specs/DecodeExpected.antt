@@ -1,14 +1,15 @@
--- What an error of a reading says is wanted. Of the words of a caller's own test nothing is known.
+-- What an error of a reading says is expected. Of the words of a caller's own test nothing is known.
 use Rattle.std.specs.Prelude.{◌≡◌, ◌<◌, ◌^◌, ⊤, FitsSigned, None, false, true}
 use Rattle.std.specs.Int.{w8, w16, w32, w64}
 use Rattle.jzon.specs.Decimal.{SomeWhere}
 use Rattle.jzon.specs.Readers.{count, exact_fixed_point_in, integer_in, is_array, is_object, number_in, text_in, truth_in, unsigned_in}
 use Rattle.jzon.specs.Value.{Value}
-use Rattle.jzon_tools.specs.declared.decode.error.Wanted.{Wanted}
-use Rattle.jzon_tools.specs.declared.decode.error.Wanted.TheVariants.{String, Boolean, Number, Array, Object, U8, U16, U32, U64, I8, I16, I32, I64, Fixed, AtMost, Other}
+use Rattle.jzon_tools.specs.declared.decode.error.Expected.{Expected}
+use Rattle.jzon_tools.specs.declared.decode.error.Expected.TheVariants.{Value as Anything, String, Boolean, Number, Array, Object, U8, U16, U32, U64, I8, I16, I32, I64, Fixed, AtMost, Other}
 
--- the value isn't what is wanted: the reader of this kind returns `None`
-abbrev pub Refuses : Wanted → Value → Type 0
+-- the value isn't what is expected: the reader of this kind returns `None`
+abbrev pub Refuses : Expected → Value → Type 0
+Refuses Anything v = ⊥
 Refuses String v = text_in v ≡ None
 Refuses Boolean v = truth_in v ≡ None
 Refuses Number v = number_in v ≡ None

@@ -5,7 +5,7 @@ use Rattle.jzon.specs.Entries.{entries_of}
 use Rattle.jzon.specs.PairList.{keys_of}
 use Rattle.jzon.proofs.Chains.{YieldsList-from_keys}
 use Rattle.jzon_tools.specs.Redact.{is_among}
-use Rattle.jzon_tools.proofs.decode.fields.stranger.Goals as goal
+use Rattle.jzon_tools.proofs.decode.fields.unknown_key.Goals as goal
 
 pub returns : goal.returns
 returns c =
