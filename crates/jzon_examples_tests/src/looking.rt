@@ -3,8 +3,8 @@
 use crate::common::{Tested, expect_eq};
 use jzon::{Error, JsonValue};
 use jzon_examples::cookbook::looking::{
-    cents, identifier, integer, means_the_same, parse_exactly, strings_inside, timeout, total, unset,
-    wide_identifier,
+    cents, identifier, integer, means_the_same, parse_exactly, strings_inside, timeout, total,
+    unset, wide_identifier,
 };
 
 #[test]

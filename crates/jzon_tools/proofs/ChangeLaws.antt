@@ -1,15 +1,14 @@
 -- A change at tokens, a token at a time.
 use Rattle.std.proofs.Common.{◌≡◌, ℕ, zero, suc, List, [], ◌∷◌, ◌++◌, Bool, true, false, Option, None, Some, option_map, option_and_then, slice_get, slice_set}
-use Rattle.std.proofs.Common.{Result, Ok, Err, IsErr, refl, sym, ap, ◌∙◌, subst, if◌then◌else◌}
+use Rattle.std.proofs.Common.{Result, Ok, Err, IsErr, length, ◌+◌, refl, sym, ap, ◌∙◌, subst, if◌then◌else◌}
 use Rattle.std.specs.Option.{option_map_or, ok_or}
 use Rattle.std.specs.Result.{result_ok}
 use Rattle.std.specs.Str.{bytes_eq}
 use Rattle.jzon.specs.PairList.{find, put}
 use Rattle.jzon.specs.Value.{Value, null, boolean, text, number, array, object, list_of_values, list_of_pairs, values_of, pairs_of}
 use Rattle.jzon.proofs.ValueLaws.{values_of-list_of_values, pairs_of-list_of_pairs}
-use Rattle.jzon_tools.specs.Pointer.{index_named, unescaped, child_of, reason_of, found, and_then, with_child, updated, changed, ChangesAt, LacksAt}
+use Rattle.jzon_tools.specs.Pointer.{index_named, unescaped, child_of, missing, found, and_then, with_child, updated, changed, ChangesAt, LacksAt}
 use Rattle.jzon_tools.specs.declared.pointer.PointerError.{PointerError}
-use Rattle.jzon_tools.specs.declared.pointer.PointerError.TheVariants.{Missing}
 
 -- a value put where it stands changes nothing
 put-same_by : (b : Bool) (p : List ℕ × Value) (k : List ℕ) (v : Value) (ps : List (List ℕ × Value))
@@ -53,38 +52,35 @@ with_child-same (object ps) t c h =
 -- ---- down one token
 
 pub found-below : (i : ℕ) (v : Value) (t : List ℕ) (ts : List (List ℕ)) (c : Value) → child_of v t ≡ Some c
-    → found i v (t ∷ ts) ≡ found (suc i) c ts
-found-below i v t ts c at = ap (λ o. and_then (λ d. found (suc i) d ts) (ok_or o (Missing i (reason_of v t)))) at
+    → found i v (t ∷ ts) ≡ found (suc (i + length t)) c ts
+found-below i v t ts c at = ap (λ o. and_then (λ d. found (suc (i + length t)) d ts) (ok_or o (missing i v t))) at
 
 pub found-none : (i : ℕ) (v : Value) (t : List ℕ) (ts : List (List ℕ)) → child_of v t ≡ None
-    → found i v (t ∷ ts) ≡ Err (Missing i (reason_of v t))
-found-none i v t ts at = ap (λ o. and_then (λ d. found (suc i) d ts) (ok_or o (Missing i (reason_of v t)))) at
+    → found i v (t ∷ ts) ≡ Err (missing i v t)
+found-none i v t ts at = ap (λ o. and_then (λ d. found (suc (i + length t)) d ts) (ok_or o (missing i v t))) at
 
--- where tokens lead doesn't depend on the number of the first
+-- where tokens lead doesn't depend on where the first begins
 found-position_by : (o : Option Value) (e f : PointerError) (ts : List (List ℕ)) (i j : ℕ)
-    → ((c : Value) → result_ok (found (suc i) c ts) ≡ result_ok (found (suc j) c ts))
-    → result_ok (and_then (λ c. found (suc i) c ts) (ok_or o e)) ≡ result_ok (and_then (λ c. found (suc j) c ts) (ok_or o f))
+    → ((c : Value) → result_ok (found i c ts) ≡ result_ok (found j c ts))
+    → result_ok (and_then (λ c. found i c ts) (ok_or o e)) ≡ result_ok (and_then (λ c. found j c ts) (ok_or o f))
 found-position_by None e f ts i j ih = refl
 found-position_by (Some c) e f ts i j ih = ih c
 
 found-position : (ts : List (List ℕ)) (i j : ℕ) (v : Value) → result_ok (found i v ts) ≡ result_ok (found j v ts)
 found-position [] i j v = refl
 found-position (t ∷ ts) i j v =
-    found-position_by (child_of v t) (Missing i (reason_of v t)) (Missing j (reason_of v t)) ts i j
-    (found-position ts (suc i) (suc j))
+    found-position_by (child_of v t) (missing i v t) (missing j v t) ts (suc (i + length t)) (suc (j + length t))
+    (found-position ts (suc (i + length t)) (suc (j + length t)))
 
 pub found-down : (v : Value) (t : List ℕ) (ts : List (List ℕ)) (c : Value) → child_of v t ≡ Some c
-    → result_ok (found 0 v (t ∷ ts)) ≡ result_ok (found 0 c ts)
-found-down v t ts c at = ap result_ok (found-below 0 v t ts c at) ∙ found-position ts 1 0 c
-
-pub found-nothing : (v : Value) (t : List ℕ) (ts : List (List ℕ)) → child_of v t ≡ None
-    → result_ok (found 0 v (t ∷ ts)) ≡ None
-found-nothing v t ts at = ap result_ok (found-none 0 v t ts at)
+    → result_ok (found 1 v (t ∷ ts)) ≡ result_ok (found 1 c ts)
+found-down v t ts c at =
+    ap result_ok (found-below 1 v t ts c at) ∙ found-position ts (suc (1 + length t)) 1 c
 
 pub changes-below : (v : Value) (t : List ℕ) (ts : List (List ℕ)) (c old new w : Value) → child_of v t ≡ Some c
     → ChangesAt c ts old new w → ChangesAt v (t ∷ ts) old new (with_child v t w)
 changes-below v t ts c old new w at h = (
-  λ i. found-below i v t ts c at ∙ h.0 (suc i),
+  λ i. found-below i v t ts c at ∙ h.0 (suc (i + length t)),
   ap (λ o. option_map (with_child v t) (option_and_then (λ d. updated (λ _. Some new) d ts) o)) at
       ∙ ap (option_map (with_child v t)) h.1,
 )
@@ -92,7 +88,7 @@ changes-below v t ts c old new w at h = (
 pub lacks-below : (v : Value) (t : List ℕ) (ts : List (List ℕ)) (c w : Value) → child_of v t ≡ Some c
     → LacksAt c ts w → LacksAt v (t ∷ ts) (with_child v t w)
 lacks-below v t ts c w at h = (
-  λ i. subst IsErr (sym (found-below i v t ts c at)) (h.0 (suc i)),
+  λ i. subst IsErr (sym (found-below i v t ts c at)) (h.0 (suc (i + length t))),
   ap (with_child v t) h.1 ∙ with_child-same v t c at,
 )
 
@@ -122,7 +118,7 @@ changed-last_by : (o : Option Value) (f : Value → List ℕ → Option Value) (
     ≡ option_map (with_child v u) (option_and_then (λ c. updated (λ _. f old t) c us) o)
 changed-last_by None f t u us i v old ih at h = refl
 changed-last_by (Some c) f t u us i v old ih at h =
-    ap (option_map (with_child v u)) (ih (suc i) c (sym (found-below i v u us c at) ∙ h))
+    ap (option_map (with_child v u)) (ih (suc (i + length u)) c (sym (found-below i v u us c at) ∙ h))
 
 pub changed-last : (f : Value → List ℕ → Option Value) (t : List ℕ) (ts : List (List ℕ)) (old : Value) (i : ℕ) (v : Value)
     → found i v ts ≡ Ok old → changed f v (ts ++ t ∷ []) ≡ updated (λ _. f old t) v ts
@@ -137,7 +133,7 @@ found-last_by : (o : Option Value) (t u : List ℕ) (us : List (List ℕ)) (i : 
     → (k : ℕ) × (found i v (u ∷ (us ++ t ∷ [])) ≡ found k old (t ∷ []))
 found-last_by None t u us i v old ih at h = absurd (not_ok _ old (sym (found-none i v u us at) ∙ h))
 found-last_by (Some c) t u us i v old ih at h =
-    let below = ih (suc i) c (sym (found-below i v u us c at) ∙ h) in
+    let below = ih (suc (i + length u)) c (sym (found-below i v u us c at) ∙ h) in
     (below.0, found-below i v u (us ++ t ∷ []) c at ∙ below.1)
 
 pub found-last : (t : List ℕ) (ts : List (List ℕ)) (old : Value) (i : ℕ) (v : Value) → found i v ts ≡ Ok old
@@ -151,7 +147,7 @@ lacks-last_by : (o : Option Value) (t u : List ℕ) (us : List (List ℕ)) (i : 
     → IsErr (found i v (u ∷ us)) → IsErr (found i v (u ∷ (us ++ t ∷ [])))
 lacks-last_by None t u us i v ih at h = subst IsErr (sym (found-none i v u (us ++ t ∷ []) at)) refl
 lacks-last_by (Some c) t u us i v ih at h =
-    subst IsErr (sym (found-below i v u (us ++ t ∷ []) c at)) (ih (suc i) c (subst IsErr (found-below i v u us c at) h))
+    subst IsErr (sym (found-below i v u (us ++ t ∷ []) c at)) (ih (suc (i + length u)) c (subst IsErr (found-below i v u us c at) h))
 
 pub lacks-last : (t : List ℕ) (ts : List (List ℕ)) (i : ℕ) (v : Value) → IsErr (found i v ts)
     → IsErr (found i v (ts ++ t ∷ []))
@@ -176,7 +172,7 @@ updated-same_by : (o : Option Value) (u : List ℕ) (us : List (List ℕ)) (i : 
     → option_map (with_child v u) (option_and_then (λ c. updated (λ _. Some old) c us) o) ≡ Some v
 updated-same_by None u us i v old ih at h = absurd (not_ok _ old (sym (found-none i v u us at) ∙ h))
 updated-same_by (Some c) u us i v old ih at h =
-    ap (option_map (with_child v u)) (ih (suc i) c (sym (found-below i v u us c at) ∙ h))
+    ap (option_map (with_child v u)) (ih (suc (i + length u)) c (sym (found-below i v u us c at) ∙ h))
     ∙ ap (λ w. Some w) (with_child-same v u c at)
 
 pub updated-same : (ts : List (List ℕ)) (old : Value) (i : ℕ) (v : Value) → found i v ts ≡ Ok old
@@ -220,7 +216,7 @@ changed-lacks_by : (o : Option Value) (f : Value → List ℕ → Option Value) 
     → option_map (with_child v u) (option_and_then (λ c. changed f c (us ++ t ∷ [])) o) ≡ None
 changed-lacks_by None f t u us i v ih at h = refl
 changed-lacks_by (Some c) f t u us i v ih at h =
-    ap (option_map (with_child v u)) (ih (suc i) c (subst IsErr (found-below i v u us c at) h))
+    ap (option_map (with_child v u)) (ih (suc (i + length u)) c (subst IsErr (found-below i v u us c at) h))
 
 pub changed-lacks : (f : Value → List ℕ → Option Value) (t : List ℕ) (ts : List (List ℕ)) (i : ℕ) (v : Value)
     → IsErr (found i v ts) → changed f v (ts ++ t ∷ []) ≡ None

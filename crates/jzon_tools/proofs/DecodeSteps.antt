@@ -11,7 +11,7 @@ use Rattle.jzon.specs.PairList.{find}
 use Rattle.jzon.specs.Readers.{entries, is_object}
 use Rattle.jzon.specs.Value.{Value, null, boolean, text, number, array, object, list_of_pairs}
 use Rattle.jzon_tools.specs.Decode.{IsErrorIn, moved_to, pointer_of}
-use Rattle.jzon_tools.specs.Escaped.{escape_of, escaped}
+use Rattle.jzon_tools.specs.Escaped.{escaped}
 use Rattle.jzon_tools.specs.Pointer.{and_then, child_of, found, tokens_in, tokens_of, unescaped, value_at}
 use Rattle.jzon_tools.specs.declared.decode.error.DecodeError.{DecodeError}
 use Rattle.jzon_tools.specs.declared.decode.error.DecodeError.TheVariants.{Text, OutOfMemory, Wrong, Missing, Unknown}
@@ -19,43 +19,8 @@ use Rattle.jzon_tools.specs.declared.pointer.PointerError.{PointerError}
 use Rattle.jzon_tools.specs.declared.pointer.PointerError.TheVariants.{NoSlash}
 use Rattle.jzon_tools.proofs.ChangeLaws.{found-down}
 use Rattle.jzon_tools.proofs.PlaceSteps.{value-of-tokens}
+use Rattle.jzon_tools.proofs.EscapedSteps.{equals, unescaped-escaped}
 use Rattle.jzon_tools.proofs.TokenSteps.{Lacks, tokens-first, tokens-only}
-
--- ---- the token of a key
-
-differs : (c d : ℕ) → (c == d) ≡ false → c ≢ d
-differs c d h = grind (arith, nat_tests)
-
-equals : (c d : ℕ) → (c == d) ≡ true → c ≡ d
-equals c d h = grind (arith, nat_tests)
-
-lacks_cons : (c x : ℕ) (xs : List ℕ) → x ≢ c → Lacks c xs → Lacks c (x ∷ xs)
-lacks_cons c x xs n h zero less = n
-lacks_cons c x xs n h (suc i) less = h i (omega arith)
-
-lacks_by : (t s : Bool) (c : ℕ) (es : List ℕ) → (s ≡ false → c ≢ 47) → Lacks 47 es
-    → Lacks 47 ((if t then 126 ∷ 48 ∷ [] else (if s then 126 ∷ 49 ∷ [] else c ∷ [])) ++ es)
-lacks_by true s c es n h = lacks_cons 47 126 (48 ∷ es) (omega arith) (lacks_cons 47 48 es (omega arith) h)
-lacks_by false true c es n h = lacks_cons 47 126 (49 ∷ es) (omega arith) (lacks_cons 47 49 es (omega arith) h)
-lacks_by false false c es n h = lacks_cons 47 c es (n refl) h
-
-pub lacks-escaped : (k : List ℕ) → Lacks 47 (escaped k)
-lacks-escaped [] = λ i less. absurd (omega arith)
-lacks-escaped (c ∷ cs) = lacks_by (c == 126) (c == 47) c (escaped cs) (differs c 47) (lacks-escaped cs)
-
-unescaped_by : (t s : Bool) (c : ℕ) (cs es : List ℕ) → (t ≡ true → c ≡ 126) → (s ≡ true → c ≡ 47)
-    → (t ≡ false → (c == 126) ≡ false) → unescaped es ≡ Some cs
-    → unescaped ((if t then 126 ∷ 48 ∷ [] else (if s then 126 ∷ 49 ∷ [] else c ∷ [])) ++ es) ≡ Some (c ∷ cs)
-unescaped_by true s c cs es tilde slash other h =
-    ap (option_map (λ k. 126 ∷ k)) h ∙ ap (λ (d : ℕ). Some (d ∷ cs)) (sym (tilde refl))
-unescaped_by false true c cs es tilde slash other h =
-    ap (option_map (λ k. 47 ∷ k)) h ∙ ap (λ (d : ℕ). Some (d ∷ cs)) (sym (slash refl))
-unescaped_by false false c cs es tilde slash other h = rw (other refl) (ap (option_map (λ k. c ∷ k)) h)
-
-pub unescaped-escaped : (k : List ℕ) → unescaped (escaped k) ≡ Some k
-unescaped-escaped [] = refl
-unescaped-escaped (c ∷ cs) =
-    unescaped_by (c == 126) (c == 47) c cs (escaped cs) (equals c 126) (equals c 47) (λ h. h) (unescaped-escaped cs)
 
 no_entry : (w : Value) → ◌≡◌ {A = Option Value} None (Some w) → ⊥
 no_entry w h = absurd (cc)
@@ -75,12 +40,12 @@ ok_from (Ok x) w h = let same : x ≡ w = cc in ap (λ y. Ok y) same
 ok_from (Err e) w h = absurd (cc)
 
 below_tokens : (v c w : Value) (t p : List ℕ) (ts : List (List ℕ)) → tokens_of ((47 ∷ t) ++ p) ≡ Some (t ∷ ts)
-    → child_of v t ≡ Some c → found 0 c ts ≡ Ok w → value_at v ((47 ∷ t) ++ p) ≡ Ok w
+    → child_of v t ≡ Some c → found 1 c ts ≡ Ok w → value_at v ((47 ∷ t) ++ p) ≡ Ok w
 below_tokens v c w t p ts tokens at h =
     value-of-tokens v ((47 ∷ t) ++ p) (t ∷ ts) tokens ∙ ok_from _ w (found-down v t ts c at ∙ ap result_ok h)
 
 below_by : (b : Bool) (v c w : Value) (t q : List ℕ) (x : ℕ) → Lacks 47 t → child_of v t ≡ Some c
-    → (b ≡ true → x ≡ 47) → and_then (found 0 c) (ok_or (if b then Some (tokens_in q) else None) NoSlash) ≡ Ok w
+    → (b ≡ true → x ≡ 47) → and_then (found 1 c) (ok_or (if b then Some (tokens_in q) else None) NoSlash) ≡ Ok w
     → value_at v ((47 ∷ t) ++ (x ∷ q)) ≡ Ok w
 below_by true v c w t q x lacks at slash h =
     subst (λ (y : ℕ). value_at v ((47 ∷ t) ++ (y ∷ q)) ≡ Ok w) (sym (slash refl))

@@ -1,7 +1,10 @@
 -- The token of a key, a piece at a time.
-use Rattle.std.proofs.Common.{◌≡◌, ◌<◌, ℕ, suc, List, [], ◌∷◌, ◌++◌, length, refl, sym, ap, ◌∙◌, arith, append_assoc, append-nil, ne_eqb}
+use Rattle.std.proofs.Common.{◌≡◌, ◌≢◌, ◌<◌, ℕ, zero, suc, List, [], ◌∷◌, ◌++◌, length, get_or, refl, sym, ap, ◌∙◌, arith, append_assoc, append-nil, ne_eqb}
+use Rattle.std.proofs.Common.{Bool, true, false, ◌==◌, if◌then◌else◌, Some, option_map}
+use Rattle.std.proofs.lemmas.Bool.Decides.{nat_tests}
 use Rattle.jzon_tools.specs.Escaped.{escaped, slashed, slash_of}
-use Rattle.jzon_tools.proofs.TokenSteps.{Lacks}
+use Rattle.jzon_tools.specs.Pointer.{tokens_of, unescaped}
+use Rattle.jzon_tools.proofs.TokenSteps.{Lacks, tokens-parent}
 
 pub escaped-part : (xs rest : List ℕ) → Lacks 126 xs → escaped (xs ++ rest) ≡ slashed xs ++ escaped rest
 escaped-part [] rest h = refl
@@ -40,3 +43,46 @@ slashed-turn text made start rest plain after whole so_far cut lacks is =
     ∙ append_assoc text plain (126 ∷ 49 ∷ slashed after)
     ∙ ap (λ l. text ++ l) (sym (slashed-part plain (47 ∷ after) lacks))
     ∙ ap (λ l. text ++ slashed l) (sym cut) ∙ so_far
+
+-- ---- the whole token
+
+differs : (c d : ℕ) → (c == d) ≡ false → c ≢ d
+differs c d h = grind (arith, nat_tests)
+
+pub equals : (c d : ℕ) → (c == d) ≡ true → c ≡ d
+equals c d h = grind (arith, nat_tests)
+
+lacks_cons : (c x : ℕ) (xs : List ℕ) → x ≢ c → Lacks c xs → Lacks c (x ∷ xs)
+lacks_cons c x xs n h zero less = n
+lacks_cons c x xs n h (suc i) less = h i (omega arith)
+
+lacks_by : (t s : Bool) (c : ℕ) (es : List ℕ) → (s ≡ false → c ≢ 47) → Lacks 47 es
+    → Lacks 47 ((if t then 126 ∷ 48 ∷ [] else (if s then 126 ∷ 49 ∷ [] else c ∷ [])) ++ es)
+lacks_by true s c es n h = lacks_cons 47 126 (48 ∷ es) (omega arith) (lacks_cons 47 48 es (omega arith) h)
+lacks_by false true c es n h = lacks_cons 47 126 (49 ∷ es) (omega arith) (lacks_cons 47 49 es (omega arith) h)
+lacks_by false false c es n h = lacks_cons 47 c es (n refl) h
+
+pub lacks-escaped : (k : List ℕ) → Lacks 47 (escaped k)
+lacks-escaped [] = λ i less. absurd (omega arith)
+lacks-escaped (c ∷ cs) = lacks_by (c == 126) (c == 47) c (escaped cs) (differs c 47) (lacks-escaped cs)
+
+unescaped_by : (t s : Bool) (c : ℕ) (cs es : List ℕ) → (t ≡ true → c ≡ 126) → (s ≡ true → c ≡ 47)
+    → (t ≡ false → (c == 126) ≡ false) → unescaped es ≡ Some cs
+    → unescaped ((if t then 126 ∷ 48 ∷ [] else (if s then 126 ∷ 49 ∷ [] else c ∷ [])) ++ es) ≡ Some (c ∷ cs)
+unescaped_by true s c cs es tilde slash other h =
+    ap (option_map (λ k. 126 ∷ k)) h ∙ ap (λ (d : ℕ). Some (d ∷ cs)) (sym (tilde refl))
+unescaped_by false true c cs es tilde slash other h =
+    ap (option_map (λ k. 47 ∷ k)) h ∙ ap (λ (d : ℕ). Some (d ∷ cs)) (sym (slash refl))
+unescaped_by false false c cs es tilde slash other h = rw (other refl) (ap (option_map (λ k. c ∷ k)) h)
+
+pub unescaped-escaped : (k : List ℕ) → unescaped (escaped k) ≡ Some k
+unescaped-escaped [] = refl
+unescaped-escaped (c ∷ cs) =
+    unescaped_by (c == 126) (c == 47) c cs (escaped cs) (equals c 126) (equals c 47) (λ h. h) (unescaped-escaped cs)
+
+-- a pointer with the token of a key after its last
+pub pushed-tokens : (old new k : List ℕ) (ts : List (List ℕ)) → new ≡ old ++ 47 ∷ escaped k → tokens_of old ≡ Some ts
+    → tokens_of new ≡ Some (ts ++ escaped k ∷ [])
+pushed-tokens old new k ts is h = ap tokens_of is ∙ tokens-parent old (escaped k) ts (lacks-escaped k) h
+
+pub ruleset pushing = (unescaped-escaped, pushed-tokens)

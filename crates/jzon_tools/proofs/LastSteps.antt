@@ -20,12 +20,12 @@ is-last path parent t ts cut lacks e = record {
 }
 
 module _ (path : List ℕ) (ts : List (List ℕ)) (t : List ℕ) (last : IsLast path ts t) where
-  at-last : (v : Value) → value_at v path ≡ found 0 v (ts ++ t ∷ [])
+  at-last : (v : Value) → value_at v path ≡ found 1 v (ts ++ t ∷ [])
   at-last v = value-of-tokens v path (ts ++ t ∷ []) last.tokens
 
   pub entry-found : (v old new w c : Value) → ChangesAt v ts old new w → child_of old t ≡ Some c
       → entry_at v path ≡ Ok c
-  entry-found v old new w c h at = last.entry v ∙ at-last v ∙ found-child t ts 0 v old c (h.0 0) at
+  entry-found v old new w c h at = last.entry v ∙ at-last v ∙ found-child t ts 1 v old c (h.0 1) at
 
   -- nothing is there, and nothing was changed
   pub nothing-there : (v old new w : Value) → ChangesAt v ts old new w → child_of old t ≡ None → new ≡ old
@@ -33,14 +33,14 @@ module _ (path : List ℕ) (ts : List (List ℕ)) (t : List ℕ) (last : IsLast 
   nothing-there v old new w h none same =
       let kept = changes-kept v ts old new w h same in (
         subst (λ x. IsErr (value_at x path)) (sym kept)
-            (subst IsErr (sym (at-last v)) (lacks-child t ts 0 v old (h.0 0) none)),
+            (subst IsErr (sym (at-last v)) (lacks-child t ts 1 v old (h.0 1) none)),
         kept,
       )
 
   pub nowhere : (v w : Value) → LacksAt v ts w → IsErr (value_at w path) × (w ≡ v)
   nowhere v w h = (
     subst (λ x. IsErr (value_at x path)) (sym h.1)
-        (subst IsErr (sym (at-last v)) (lacks-last t ts 0 v (h.0 0))),
+        (subst IsErr (sym (at-last v)) (lacks-last t ts 1 v (h.0 1))),
     h.1,
   )
 

@@ -1,12 +1,9 @@
 -- The entry that a token names, by its position.
 use Rattle.std.proofs.Common.{◌≡◌, ℕ, zero, suc, ◌+◌, List, [], ◌∷◌, length, Bool, true, false, not, nat_lt, if◌then◌else◌, Option, None, Some, option_map, option_and_then, slice_get}
-use Rattle.std.proofs.Common.{refl, sym, ap, ◌∙◌, arith, cond, get_or, ◌<◌, true≢false, subst}
+use Rattle.std.proofs.Common.{refl, sym, ap, ◌∙◌, arith, cond, get_or, ◌<◌, true≢false}
 use Rattle.std.proofs.lemmas.Bool.Decides.{nat_tests}
 use Rattle.std.proofs.lemmas.List.Quantifiers.{position-Some}
-use Rattle.std.proofs.lemmas.Slice.Eq.{bytes_eq-Decides}
-use Rattle.std.specs.Cmp.Lexicographic.{nat_list_eq_equiv}
-use Rattle.std.proofs.lemmas.Map.Keys.{IsDistinct-head, IsDistinct-tail}
-use Rattle.std.specs.List.{position, position_or_len, filter, AllByRecursion, IsDistinct}
+use Rattle.std.specs.List.{position, position_or_len, remove}
 use Rattle.std.specs.Option.{option_map_or}
 use Rattle.std.specs.Str.{bytes_eq}
 use Rattle.jzon.specs.PairList.{keys_of, find, put, cut, set_value}
@@ -88,49 +85,36 @@ module _ {V : Type 0} where
 
   -- ---- what is left without it
 
-  kept_all : (k : List ℕ) (ps : List (List ℕ × V)) → AllByRecursion (λ j. bytes_eq k j ≡ false) (keys_of ps)
-      → filter (λ p. not (bytes_eq p.0 k)) ps ≡ ps
-  kept_all k [] apart = refl
-  kept_all k (p ∷ ps) apart =
-      let other : bytes_eq p.0 k ≡ false = nat_list_eq_equiv.symm p.0 k ∙ apart.0 in
-      rw other (ap (λ qs. p ∷ qs) (kept_all k ps apart.1))
-
-  cut-at : (k : List ℕ) (ps : List (List ℕ × V)) (i : ℕ) (w : V) → i < length (keys_of ps)
+  cut-at : (k : List ℕ) (ps : List (List ℕ × V)) (i : ℕ) → i < length (keys_of ps)
       → bytes_eq (get_or (keys_of ps) i []) k ≡ true
-      → ((j : ℕ) → j < i → bytes_eq (get_or (keys_of ps) j []) k ≡ false) → IsDistinct bytes_eq (keys_of ps)
-      → filter (λ p. not (bytes_eq p.0 k)) (set_value ps i w) ≡ cut k ps
-  cut-at k [] i w within here before distinct = absurd (omega arith)
-  cut-at k (p ∷ ps) zero w within here before distinct =
-      let same : bytes_eq p.0 k ≡ true = here in
-      let apart = IsDistinct-head bytes_eq p.0 (keys_of ps) distinct in
-      rw same (kept_all k ps (subst (λ (j : List ℕ). AllByRecursion (λ l. bytes_eq j l ≡ false) (keys_of ps))
-      ((bytes_eq-Decides p.0 k).0 same) apart))
-  cut-at k (p ∷ ps) (suc i) w within here before distinct =
+      → ((j : ℕ) → j < i → bytes_eq (get_or (keys_of ps) j []) k ≡ false) → cut k ps ≡ remove ps i
+  cut-at k [] i within here before = absurd (omega arith)
+  cut-at k (p ∷ ps) zero within here before = let same : bytes_eq p.0 k ≡ true = here in rw same refl
+  cut-at k (p ∷ ps) (suc i) within here before =
       let other : bytes_eq p.0 k ≡ false = before 0 (omega arith) in
-      rw other (ap (λ qs. p ∷ qs) (cut-at k ps i w (omega arith) here (λ j less. before (suc j) (omega arith))
-      (IsDistinct-tail bytes_eq p.0 (keys_of ps) distinct)))
+      rw other (ap (λ qs. p ∷ qs) (cut-at k ps i (omega arith) here (λ j less. before (suc j) (omega arith))))
 
-  cut-at_by : (o : Option (List ℕ)) (ps : List (List ℕ × V)) (i : ℕ) (w : V)
-      → position (λ k. option_map_or (bytes_eq k) o false) (keys_of ps) ≡ Some i → IsDistinct bytes_eq (keys_of ps)
-      → option_map_or (λ k. cut k ps) o ps ≡ filter (λ p. not (option_map_or (bytes_eq p.0) o false)) (set_value ps i w)
-  cut-at_by None ps i w e distinct =
+  cut-at_by : (o : Option (List ℕ)) (ps : List (List ℕ × V)) (i : ℕ)
+      → position (λ k. option_map_or (bytes_eq k) o false) (keys_of ps) ≡ Some i
+      → option_map_or (λ k. cut k ps) o ps ≡ remove ps i
+  cut-at_by None ps i e =
       absurd (true≢false (sym (position-Some (λ (k : List ℕ). false) (keys_of ps) i [] e).1))
-  cut-at_by (Some u) ps i w e distinct =
-      let at = position-Some (λ k. bytes_eq k u) (keys_of ps) i [] e in
-      sym (cut-at u ps i w at.0 at.1 at.2 distinct)
+  cut-at_by (Some u) ps i e =
+      let at = position-Some (λ k. bytes_eq k u) (keys_of ps) i [] e in cut-at u ps i at.0 at.1 at.2
 
-  -- without the entries that a token names, there are those without its key
-  pub named-cut : (t : List ℕ) (ps : List (List ℕ × V)) (i : ℕ) (w : V) → position (names t) (keys_of ps) ≡ Some i
-      → IsDistinct bytes_eq (keys_of ps)
-      → option_map_or (λ k. cut k ps) (unescaped t) ps ≡ filter (λ p. not (names t p.0)) (set_value ps i w)
-  named-cut t ps i w e distinct = cut-at_by (unescaped t) ps i w e distinct
+  -- without the entry at the position whose key a token names, there are those without its key
+  pub named-cut : (t : List ℕ) (ps : List (List ℕ × V)) (i : ℕ) → position (names t) (keys_of ps) ≡ Some i
+      → option_map_or (λ k. cut k ps) (unescaped t) ps ≡ remove ps i
+  named-cut t ps i e = cut-at_by (unescaped t) ps i e
 
-  cut-missing_by : (b : Bool) (k : List ℕ) (p : List ℕ × V) (ps : List (List ℕ × V))
-      → (find k ps ≡ None → cut k ps ≡ ps) → (if b then Some p.1 else find k ps) ≡ None
-      → (if b then ps else p ∷ cut k ps) ≡ p ∷ ps
-  cut-missing_by true k p ps ih h = absurd (cc)
-  cut-missing_by false k p ps ih h = ap (λ qs. p ∷ qs) (ih h)
+  -- nothing is removed past the end
+  pub remove-past : (ps : List (List ℕ × V)) (i : ℕ) → None ≡ slice_get ps i → remove ps i ≡ ps
+  remove-past [] zero h = refl
+  remove-past [] (suc i) h = refl
+  remove-past (p ∷ ps) zero h = absurd (cc)
+  remove-past (p ∷ ps) (suc i) h = ap (λ qs. p ∷ qs) (remove-past ps i h)
 
-  pub cut-missing : (k : List ℕ) (ps : List (List ℕ × V)) → find k ps ≡ None → cut k ps ≡ ps
-  cut-missing k [] h = refl
-  cut-missing k (p ∷ ps) h = cut-missing_by (bytes_eq p.0 k) k p ps (cut-missing k ps) h
+-- the position of a key is that of a token that is this key
+pub position-plain : (t : List ℕ) (ks : List (List ℕ)) → unescaped t ≡ Some t
+    → position (λ k. bytes_eq k t) ks ≡ position (names t) ks
+position-plain t ks plain = sym (ap (λ o. position (λ k. option_map_or (bytes_eq k) o false) ks) plain)

@@ -1,5 +1,5 @@
 -- The steps of a patch: where a pointer names nothing, nothing can be changed; and the operations that are left.
-use Rattle.std.proofs.Common.{◌≡◌, ℕ, suc, List, [], ◌∷◌, Option, None, Some, option_map, option_and_then, Ok, Err}
+use Rattle.std.proofs.Common.{◌≡◌, ℕ, suc, ◌+◌, length, List, [], ◌∷◌, Option, None, Some, option_map, option_and_then, Ok, Err}
 use Rattle.std.proofs.Common.{refl, ap, ◌∙◌}
 use Rattle.std.specs.Option.{ok_or}
 use Rattle.jzon.specs.JsonValue.{JsonValue}
@@ -9,30 +9,30 @@ use Rattle.std.specs.List.{remove}
 use Rattle.jzon.specs.Value.{Value, null, boolean, text, number, array, object, values_of, pairs_of, list_of_values, list_of_pairs}
 use Rattle.jzon.specs.View.{view, view_values}
 use Rattle.jzon_tools.specs.Patch.{operated, applied_each}
-use Rattle.jzon_tools.specs.Pointer.{index_named, unescaped, child_of, with_child, reason_of, tokens_of, found, and_then, value_at, entry_at, updated, updated_at, changed, without, removed_at}
+use Rattle.jzon_tools.specs.Pointer.{index_named, unescaped, child_of, with_child, missing, tokens_of, found, and_then, value_at, entry_at, updated, updated_at, changed, without, removed_at}
 use Rattle.jzon_tools.specs.declared.pointer.PointerError.{PointerError}
-use Rattle.jzon_tools.specs.declared.pointer.PointerError.TheVariants.{NoSlash, Missing}
+use Rattle.jzon_tools.specs.declared.pointer.PointerError.TheVariants.{NoSlash}
 
 -- ---- what names nothing
 
-updated-missing_by : (f : Value → Option Value) (o : Option Value) (i : ℕ) (v : Value) (t : List ℕ) (ts : List (List ℕ))
-    (x e : PointerError) → ((c : Value) → found (suc i) c ts ≡ Err e → updated f c ts ≡ None)
-    → and_then (λ c. found (suc i) c ts) (ok_or o x) ≡ Err e
+updated-missing_by : (f : Value → Option Value) (o : Option Value) (j : ℕ) (v : Value) (t : List ℕ) (ts : List (List ℕ))
+    (x e : PointerError) → ((c : Value) → found j c ts ≡ Err e → updated f c ts ≡ None)
+    → and_then (λ c. found j c ts) (ok_or o x) ≡ Err e
     → option_map (with_child v t) (option_and_then (λ c. updated f c ts) o) ≡ None
-updated-missing_by f None i v t ts x e ih h = refl
-updated-missing_by f (Some c) i v t ts x e ih h = ap (option_map (with_child v t)) (ih c h)
+updated-missing_by f None j v t ts x e ih h = refl
+updated-missing_by f (Some c) j v t ts x e ih h = ap (option_map (with_child v t)) (ih c h)
 
 updated-missing : (f : Value → Option Value) (ts : List (List ℕ)) (i : ℕ) (v : Value) (e : PointerError)
     → found i v ts ≡ Err e → updated f v ts ≡ None
 updated-missing f [] i v e h = absurd (cc)
 updated-missing f (t ∷ ts) i v e h =
-    updated-missing_by f (child_of v t) i v t ts (Missing i (reason_of v t)) e
-    (λ c g. updated-missing f ts (suc i) c e g) h
+    updated-missing_by f (child_of v t) (suc (i + length t)) v t ts (missing i v t) e
+    (λ c g. updated-missing f ts (suc (i + length t)) c e g) h
 
 updated-nowhere_by : (f : Value → Option Value) (o : Option (List (List ℕ))) (v : Value) (e : PointerError)
-    → and_then (found 0 v) (ok_or o NoSlash) ≡ Err e → option_and_then (updated f v) o ≡ None
+    → and_then (found 1 v) (ok_or o NoSlash) ≡ Err e → option_and_then (updated f v) o ≡ None
 updated-nowhere_by f None v e h = refl
-updated-nowhere_by f (Some ts) v e h = updated-missing f ts 0 v e h
+updated-nowhere_by f (Some ts) v e h = updated-missing f ts 1 v e h
 
 pub updated-nowhere : (f : Value → Option Value) (v : Value) (path : List ℕ) (e : PointerError)
     → value_at v path ≡ Err e → updated_at f v path ≡ None
@@ -58,25 +58,25 @@ no_child_by : (o : Option Value) (x e : PointerError) → and_then (λ c. Ok c) 
 no_child_by None x e h = refl
 no_child_by (Some c) x e h = absurd (cc)
 
-removed-missing_by : (o : Option Value) (i : ℕ) (v : Value) (t u : List ℕ) (us : List (List ℕ))
-    (x e : PointerError) → ((c : Value) → found (suc i) c (u ∷ us) ≡ Err e → changed without c (u ∷ us) ≡ None)
-    → and_then (λ c. found (suc i) c (u ∷ us)) (ok_or o x) ≡ Err e
+removed-missing_by : (o : Option Value) (j : ℕ) (v : Value) (t u : List ℕ) (us : List (List ℕ))
+    (x e : PointerError) → ((c : Value) → found j c (u ∷ us) ≡ Err e → changed without c (u ∷ us) ≡ None)
+    → and_then (λ c. found j c (u ∷ us)) (ok_or o x) ≡ Err e
     → option_map (with_child v t) (option_and_then (λ c. changed without c (u ∷ us)) o) ≡ None
-removed-missing_by None i v t u us x e ih h = refl
-removed-missing_by (Some c) i v t u us x e ih h = ap (option_map (with_child v t)) (ih c h)
+removed-missing_by None j v t u us x e ih h = refl
+removed-missing_by (Some c) j v t u us x e ih h = ap (option_map (with_child v t)) (ih c h)
 
 removed-missing : (ts : List (List ℕ)) (i : ℕ) (v : Value) (e : PointerError)
     → found i v ts ≡ Err e → changed without v ts ≡ None
 removed-missing [] i v e h = refl
-removed-missing (t ∷ []) i v e h = without-none v t (no_child_by (child_of v t) (Missing i (reason_of v t)) e h)
+removed-missing (t ∷ []) i v e h = without-none v t (no_child_by (child_of v t) (missing i v t) e h)
 removed-missing (t ∷ u ∷ us) i v e h =
-    removed-missing_by (child_of v t) i v t u us (Missing i (reason_of v t)) e
-    (λ c g. removed-missing (u ∷ us) (suc i) c e g) h
+    removed-missing_by (child_of v t) (suc (i + length t)) v t u us (missing i v t) e
+    (λ c g. removed-missing (u ∷ us) (suc (i + length t)) c e g) h
 
 removed-nowhere_by : (o : Option (List (List ℕ))) (v : Value) (e : PointerError)
-    → and_then (found 0 v) (ok_or o NoSlash) ≡ Err e → option_and_then (changed without v) o ≡ None
+    → and_then (found 1 v) (ok_or o NoSlash) ≡ Err e → option_and_then (changed without v) o ≡ None
 removed-nowhere_by None v e h = refl
-removed-nowhere_by (Some ts) v e h = removed-missing ts 0 v e h
+removed-nowhere_by (Some ts) v e h = removed-missing ts 1 v e h
 
 pub removed-nowhere : (v : Value) (path : List ℕ) (e : PointerError) → entry_at v path ≡ Err e → removed_at v path ≡ None
 removed-nowhere v [] e h = refl

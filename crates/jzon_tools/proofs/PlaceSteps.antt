@@ -1,10 +1,10 @@
 -- What is seen of an object or an array while a value inside is changed.
-use Rattle.std.proofs.Common.{◌≡◌, ◌<◌, ℕ, length, get_or, List, map, Option, None, Some, option_map, option_and_then, slice_get, slice_set}
+use Rattle.std.proofs.Common.{◌≡◌, ◌<◌, ℕ, suc, ◌+◌, ◌-◌, length, get_or, List, [], ◌∷◌, Err, arith, map, Option, None, Some, option_map, option_and_then, slice_get, slice_set}
 use Rattle.std.proofs.Common.{refl, sym, ap, ◌∙◌}
-use Rattle.std.proofs.lemmas.List.{map-set}
+use Rattle.std.proofs.lemmas.List.{length-map, map-set}
 use Rattle.std.proofs.lemmas.Option.{slice_get-map, slice_get-get_or, slice_get_past, slice_get_read}
 use Rattle.std.specs.List.{ItemBy, position}
-use Rattle.std.specs.Option.{option_map_or, ok_or}
+use Rattle.std.specs.Option.{option_map_or, ok_or, MatchOption}
 use Rattle.jzon.specs.Entries.{entries_of}
 use Rattle.jzon.specs.JsonValue.{JsonValue}
 use Rattle.jzon.specs.Object.{Object}
@@ -13,14 +13,17 @@ use Rattle.jzon.specs.Value.{Value, array, object, values_of, pairs_of, list_of_
 use Rattle.jzon.specs.View.{view, viewed, view_object}
 use Rattle.jzon.proofs.ValueLaws.{view-Object, view-Array, entries-Object, list_of_pairs-pairs_of, viewed-put, viewed-cut}
 use Rattle.jzon.proofs.ValueLaws.{find-viewed, find-view_object, list_of_values-values_of}
-use Rattle.jzon_tools.proofs.ChangeLaws.{found-down, found-nothing}
+use Rattle.jzon_tools.proofs.ChangeLaws.{found-below, found-none}
 use Rattle.jzon_tools.proofs.NameSteps.{named-entry, named-written}
-use Rattle.jzon_tools.specs.Pointer.{index_named, child_of, with_child, unescaped, names, tokens_of, value_at, found, and_then}
+use Rattle.jzon_tools.specs.Pointer.{index_named, child_of, with_child, unescaped, names, tokens_in, tokens_left, tokens_of, value_at, missing, found, and_then}
 use Rattle.jzon_tools.specs.declared.pointer.PointerError.TheVariants.{NoSlash}
 
 -- the array of these elements
 abbrev pub array_seen : List JsonValue → Value
 array_seen items = array (values_of (map view items))
+
+pub elements-counted : (items : List JsonValue) → length (list_of_values (values_of (map view items))) ≡ length items
+elements-counted items = ap length (list_of_values-values_of (map view items)) ∙ length-map items view
 
 pub element-found : (items : List JsonValue) (t : List ℕ) (i : ℕ) → index_named t ≡ Some i
     → child_of (array_seen items) t ≡ option_map view (slice_get items i)
@@ -66,11 +69,6 @@ pub member-child : (o : Object) (t : List ℕ)
     → child_of (view_object o) t ≡ option_map view (option_and_then (λ k. find k (entries_of o)) (unescaped t))
 member-child o t = member_by (entries_of o) (unescaped t)
 
-pub member-found : (o : Object) (t k : List ℕ) → unescaped t ≡ Some k
-    → child_of (view_object o) t ≡ option_map view (find k (entries_of o))
-member-found o t k named =
-    member-child o t ∙ ap (λ n. option_map view (option_and_then (λ j. find j (entries_of o)) n)) named
-
 -- the member that a token names, by its position
 pub member-at : (o : Object) (t : List ℕ) (i : Option ℕ) → position (names t) (keys_of (entries_of o)) ≡ i
     → child_of (view_object o) t
@@ -94,12 +92,6 @@ member-written o t new qs is =
     ap (λ ps. object (pairs_of ps)) (written_by (entries_of o) (unescaped t) new)
     ∙ ap (λ ps. object (pairs_of (viewed ps))) is
 
-pub plain-written : (o : Object) (t k : List ℕ) (new : JsonValue) → unescaped t ≡ Some k
-    → with_child (view_object o) t (view new) ≡ object (pairs_of (viewed (put k new (entries_of o))))
-plain-written o t k new named =
-    member-written o t new (put k new (entries_of o))
-    (ap (λ n. option_map_or (λ j. put j new (entries_of o)) n (entries_of o)) named)
-
 pub placed-written : (o : Object) (t : List ℕ) (i : ℕ) (new : JsonValue)
     → position (names t) (keys_of (entries_of o)) ≡ Some i
     → with_child (view_object o) t (view new) ≡ object (pairs_of (viewed (set_value (entries_of o) i new)))
@@ -108,7 +100,32 @@ placed-written o t i new at =
 
 -- what a pointer names is found at its tokens
 pub value-of-tokens : (v : Value) (path : List ℕ) (ts : List (List ℕ)) → tokens_of path ≡ Some ts
-    → value_at v path ≡ found 0 v ts
-value-of-tokens v path ts h = ap (λ o. and_then (found 0 v) (ok_or o NoSlash)) h
+    → value_at v path ≡ found 1 v ts
+value-of-tokens v path ts h = ap (λ o. and_then (found 1 v) (ok_or o NoSlash)) h
 
-pub ruleset placing = (element-found, element-missing, value-of-tokens, found-down, found-nothing, view-Object, view-Array, entries-Object, list_of_pairs-pairs_of, viewed-put, viewed-cut, find-view_object, list_of_values-values_of)
+-- how many bytes are left of a pointer
+abbrev pub bytes_left : Option (List ℕ) → ℕ
+bytes_left None = 0
+bytes_left (Some cs) = length cs
+
+-- what is found from the rest of a pointer on: at a child, after its token and a slash
+pub found-further : (v c : Value) (path text t : List ℕ) (rest : Option (List ℕ))
+    → tokens_in text ≡ t ∷ tokens_left rest → length text < length path
+    → MatchOption rest (length t ≡ length text) (λ cs. suc (length t + length cs) ≡ length text)
+    → child_of v t ≡ Some c
+    → found (length path - length text) v (tokens_in text) ≡ found (length path - bytes_left rest) c (tokens_left rest)
+found-further v c path text t None tokens within cut at =
+    ap (found (length path - length text) v) tokens ∙ found-below (length path - length text) v t [] c at
+found-further v c path text t (Some cs) tokens within cut at =
+    ap (found (length path - length text) v) tokens
+    ∙ found-below (length path - length text) v t (tokens_in cs) c at
+    ∙ ap (λ i. found i c (tokens_in cs)) (omega (arith, cut, within))
+
+-- and where there is no child, its token is the error's
+pub found-missing : (v : Value) (path text t : List ℕ) (ts : List (List ℕ)) (start : ℕ)
+    → tokens_in text ≡ t ∷ ts → start ≡ length path - length text → child_of v t ≡ None
+    → found (length path - length text) v (tokens_in text) ≡ Err (missing start v t)
+found-missing v path text t ts start tokens is at =
+    ap (λ i. found i v (tokens_in text)) (sym is) ∙ ap (found start v) tokens ∙ found-none start v t ts at
+
+pub ruleset placing = (elements-counted, element-found, element-missing, value-of-tokens, found-further, found-missing, view-Object, view-Array, entries-Object, list_of_pairs-pairs_of, viewed-put, viewed-cut, find-view_object, list_of_values-values_of)

@@ -1,6 +1,6 @@
 -- What a pointer's text leads to in a value, and what changes there (RFC 6901). A text, a token and a key are their
 -- bytes; a token is as it is written, between two slashes.
-use Rattle.std.specs.Prelude.{◌≡◌, IsErr, ℕ, suc, ◌^◌, List, [], ◌∷◌, ◌++◌, length, Bool, false, not, ◌&&◌, ◌==◌, nat_lt, if◌then◌else◌}
+use Rattle.std.specs.Prelude.{◌≡◌, IsErr, ℕ, suc, ◌+◌, ◌^◌, List, [], ◌∷◌, ◌++◌, length, Bool, false, not, ◌&&◌, ◌==◌, nat_lt, if◌then◌else◌}
 use Rattle.std.specs.Prelude.{Option, None, Some, option_and_then, option_map, slice_index, slice_get, slice_set, Result, Ok, Err}
 use Rattle.std.specs.Char.{is_ascii_digit}
 use Rattle.std.specs.List.{list_all, insert, remove}
@@ -8,9 +8,10 @@ use Rattle.std.specs.Option.{is_some, ok_or, option_map_or}
 use Rattle.std.specs.Str.{bytes_eq}
 use Rattle.std.specs.Str.Parse.{digits_value}
 use Rattle.jzon.specs.PairList.{find, put, cut}
-use Rattle.jzon.specs.Value.{Value, array, object, list_of_values, list_of_pairs, values_of, pairs_of}
+use Rattle.jzon.specs.Value.{Value, null, boolean, text, number, array, object, list_of_values, list_of_pairs, values_of, pairs_of}
 use Rattle.jzon_tools.specs.declared.pointer.PointerError.{PointerError}
 use Rattle.jzon_tools.specs.declared.pointer.PointerError.TheVariants.{NoSlash, Missing, WholeValue}
+use Rattle.jzon_tools.specs.declared.pointer.Primitive.TheVariants.{Null, Boolean, Number, String}
 use Rattle.jzon_tools.specs.declared.pointer.Reason.{Reason}
 use Rattle.jzon_tools.specs.declared.pointer.Reason.TheVariants.{BadEscape, NoMember, NotAnIndex, OutOfRange, NoChildren}
 
@@ -62,8 +63,11 @@ child_of _ t = None
 -- why a token names nothing in a value
 abbrev pub reason_in : Value → List ℕ → Reason
 reason_in (object ps) t = NoMember
-reason_in (array vs) t = if is_index t then OutOfRange else NotAnIndex
-reason_in _ t = NoChildren
+reason_in (array vs) t = if is_index t then OutOfRange (length (list_of_values vs)) else NotAnIndex
+reason_in null t = NoChildren Null
+reason_in (boolean b) t = NoChildren Boolean
+reason_in (number n) t = NoChildren Number
+reason_in (text k s) t = NoChildren String
 
 -- why a token names nothing, and first that a `~` in it means nothing
 abbrev pub reason_of : Value → List ℕ → Reason
@@ -74,14 +78,19 @@ abbrev pub and_then : {A B E : Type 0} → (A → Result B E) → Result A E →
 and_then f (Ok a) = f a
 and_then f (Err e) = Err e
 
--- the value to which tokens lead, the first of which is token i of the pointer; or the first token that names nothing
+-- the error of a token that names nothing, and begins at byte i of the pointer
+abbrev pub missing : ℕ → Value → List ℕ → PointerError
+missing i v t = Missing i (i + length t) (reason_of v t)
+
+-- The value to which tokens lead, the first of which begins at byte i of the pointer; or the first token that names
+-- nothing. After a token is a slash, and then the next.
 abbrev pub found : ℕ → Value → List (List ℕ) → Result Value PointerError
 found i v [] = Ok v
-found i v (t ∷ ts) = and_then (λ c. found (suc i) c ts) (ok_or (child_of v t) (Missing i (reason_of v t)))
+found i v (t ∷ ts) = and_then (λ c. found (suc (i + length t)) c ts) (ok_or (child_of v t) (missing i v t))
 
--- the value that a pointer names
+-- the value that a pointer names; its first token begins after its first slash
 abbrev pub value_at : Value → List ℕ → Result Value PointerError
-value_at v path = and_then (found 0 v) (ok_or (tokens_of path) NoSlash)
+value_at v path = and_then (found 1 v) (ok_or (tokens_of path) NoSlash)
 
 -- the same, of an entry or an element
 abbrev pub entry_at : Value → List ℕ → Result Value PointerError

@@ -100,7 +100,8 @@ impl From<PatchError> for io::Error {
 }
 
 impl PatchError {
-    /// The error with its pointer, which the patch has: `operation 2: /b/0: test failed`.
+    /// The error with its pointer, which the patch has: `operation 2: /b/0: test failed`, or
+    /// ``operation 0: `path`: /a/b: /a is a number and has no members``.
     pub fn shown(self, patch: &JsonValue) -> Shown<'_> {
         let name = match self.cause {
             Cause::Pointer(name, _) => name,
@@ -122,16 +123,17 @@ pub struct Shown<'a> {
 }
 
 impl fmt::Display for Shown<'_> {
-    ghost output = { λ s. Some (shown_text s) };
+    ghost output = { λ s. Some (shown_text s.error.operation s.error.cause s.pointer.now) };
 
     fn fmt<W: fmt::Write>(&self, f: &mut fmt::Formatter<W>) -> fmt::Result {
-        match self.error.operation {
-            Some(number) if !self.pointer.is_empty() => {
-                write!(
-                    f,
-                    "operation {number}: {}: {}",
-                    self.pointer, self.error.cause
-                )
+        let pointer = self.pointer;
+        match (self.error.operation, self.error.cause) {
+            (Some(number), Cause::Pointer(name, error)) => {
+                let error = error.in_pointer(pointer);
+                write!(f, "operation {number}: `{name}`: {error}")
+            }
+            (Some(number), cause) if !pointer.is_empty() => {
+                write!(f, "operation {number}: {pointer}: {cause}")
             }
             _ => write!(f, "{}", self.error),
         }

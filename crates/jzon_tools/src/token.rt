@@ -1,15 +1,17 @@
-//! The reference tokens of a pointer's text (RFC 6901, sections 3 and 4), without allocation.
+//! The reference tokens of a pointer's text (RFC 6901, sections 3 and 4).
 //!
 //! A token is kept as it is written. Where it has no `~`, it is the key itself, and the object's index
-//! finds it. A token with an escape is compared with each key in turn.
+//! finds it. A token with an escape is compared with each key in turn, so that nothing is allocated.
 
-ghost use Rattle.std.specs.Prelude.{◌≡◌, ◌&&◌, ◌==◌, ◌<◌, ◌≤◌, ◌∷◌, nat_lt, length, drop, slice_index, option_map, option_and_then, IfOk, IfSome, string_bytes, None, Some};
+ghost use Rattle.std.specs.Prelude.{◌≡◌, ◌&&◌, ◌==◌, ◌<◌, ◌≤◌, ◌+◌, ◌∷◌, ◌++◌, nat_lt, suc, true, false, if◌then◌else◌, MatchOption, OnOk, OnErr, length, drop, slice_index, option_map, option_and_then, IfOk, IfSome, string_bytes, None, Some};
 ghost use Rattle.std.specs.Char.{is_ascii_digit};
 ghost use Rattle.std.specs.List.{list_all, position};
 ghost use Rattle.std.specs.Option.{is_some, option_copied};
 ghost use Rattle.jzon.specs.Entries.{entries_of};
 ghost use Rattle.jzon.specs.PairList.{find, keys_of};
-ghost use Rattle.jzon_tools.specs.Pointer.{is_index, index_named, names, tokens_in, tokens_left, unescaped};
+ghost use Rattle.jzon.specs.View.{view, view_object};
+ghost use Rattle.jzon_tools.specs.Escaped.{escaped, slashed};
+ghost use Rattle.jzon_tools.specs.Pointer.{is_index, index_named, names, tokens_in, tokens_left, unescaped, with_new};
 
 use jzon::JsonValue;
 use jzon::object::Object;
@@ -18,7 +20,8 @@ use std::alloc::{AllocError, Global};
 /// The first token of a text, and the text of the others, if there are any.
 pub fn first_token(text: &str) -> (&str, Option<&str>)
     ensures tokens { tokens_in text.now ≡ result.0.now ∷ tokens_left (option_copied result.1) }
-    ensures rest { IfSome result.1 (λ rest. length rest.now < length text.now) }
+    ensures rest { MatchOption result.1 (length result.0.now ≡ length text.now)
+        (λ rest. suc (length result.0.now + length rest.now) ≡ length text.now) }
 {
     match text.split_once('/') {
         Some((token, rest)) => (token, Some(rest)),
@@ -61,9 +64,6 @@ pub fn member<'a>(object: &'a Object, token: &str) -> Option<&'a JsonValue>
     ensures { option_copied result
         ≡ option_and_then (λ k. find k (entries_of object.now)) (unescaped token.now) }
 {
-    if !token.contains('~') {
-        return object.get(token);
-    }
     let (_key, value) = object.get_index(position_of(object, token)?)?;
     Some(value)
 }
@@ -72,11 +72,21 @@ pub fn member<'a>(object: &'a Object, token: &str) -> Option<&'a JsonValue>
 pub fn position_of(object: &Object, token: &str) -> Option<usize>
     ensures { result ≡ position (names token.now) (keys_of (entries_of object.now)) }
 {
+    if is_plain(token) {
+        return object.get_index_of(token);
+    }
     object.keys().position(|key| is_name(token, key))
 }
 
+/// Whether a token is the key itself, since it has no `~`.
+fn is_plain(token: &str) -> bool
+    ensures { result ≡ true → unescaped token.now ≡ Some token.now }
+{
+    !token.contains('~')
+}
+
 /// Whether a token names this key.
-pub fn is_name(token: &str, key: &str) -> bool
+fn is_name(token: &str, key: &str) -> bool
     ensures { result ≡ names token.now key.now }
 {
     let token = token.as_bytes();
@@ -152,4 +162,57 @@ pub fn key_of(alloc: Global, token: &str) -> Result<Option<String>, AllocError>
     }
     key.push_str(rest)?;
     Ok(Some(key))
+}
+
+/// Puts a value under the key that a token names. `false` for a bad escape, which names none.
+pub fn insert_member(
+    alloc: Global,
+    object: &mut Object,
+    token: &str,
+    new: JsonValue,
+) -> jzon::Result<bool>
+    ensures ok { IfOk result (λ is. with_new (view new) (view_object object.old) token.now
+        ≡ (if is then Some (view_object object.new) else None)) }
+    ensures kept { IfOk result (λ is. is ≡ false
+        → view_object object.new ≡ view_object object.old) }
+    ensures err { OnErr result (view_object object.new ≡ view_object object.old) }
+{
+    if is_plain(token) {
+        object.insert(alloc, token, new)?;
+        return Ok(true);
+    }
+    match key_of(alloc, token)? {
+        Some(key) => {
+            object.insert(alloc, key.as_str(), new)?;
+            Ok(true)
+        }
+        None => Ok(false),
+    }
+}
+
+/// The token of a key: `~0` for each `~`, and `~1` for each `/`.
+pub fn push_escaped(text: &mut String, key: &str) -> Result<(), AllocError>
+    ensures { OnOk result (string_bytes text.new ≡ string_bytes text.old ++ escaped key.now) }
+{
+    let mut rest = key;
+    'escapes: while let Some((plain, after)) = rest.split_once('~') {
+        push_slashed(text, plain)?;
+        text.push_str("~0")?;
+        rest = after;
+    }
+    push_slashed(text, rest)
+}
+
+/// `~1` for each `/`.
+fn push_slashed(text: &mut String, key: &str) -> Result<(), AllocError>
+    ensures { OnOk result (string_bytes text.new ≡ string_bytes text.old ++ slashed key.now) }
+{
+    let mut rest = key;
+    'escapes: while let Some((plain, after)) = rest.split_once('/') {
+        text.push_str(plain)?;
+        text.push_str("~1")?;
+        rest = after;
+    }
+    text.push_str(rest)?;
+    Ok(())
 }

@@ -192,7 +192,10 @@ fn parts_of(alloc: Global, text: &str) -> Result<String, DecodeError> {
     };
     let name = &read.name;
     let (lists, ports) = (read.lists.len(), read.ports.len());
-    Ok(format!(in alloc; "{name} {} {cents} {lists} {} {ports}", read.small, read.price)?)
+    Ok(format!(in alloc;
+        "{name} {} {cents} {lists} {} {ports}",
+        read.small, read.price
+    )?)
 }
 
 fn printed(alloc: Global, text: &str, kind: As) -> Result<String, DecodeError> {

@@ -3,10 +3,8 @@
 use crate::common::Tested;
 use jzon::JsonValue;
 use jzon_tools::canonical::{canonical_text, of_text, sort_keys};
-use jzon_tools::patch;
-use jzon_tools::pointer::PointerError::Missing;
-use jzon_tools::pointer::{self, Reason};
 use jzon_tools::redact::redact;
+use jzon_tools::{patch, pointer};
 
 #[test]
 fn canonical_order(rt: HostRuntime) -> Tested {
@@ -71,13 +69,12 @@ fn pointed_port(rt: HostRuntime) -> Tested {
     pointer::insert(alloc, &mut config, "/servers/-", JsonValue::Null)?;
     let dump = config.dump(alloc)?;
     assert_eq!(rt; dump.as_str(), r#"{"servers":[{"port":81},null]}"#);
-    let found = pointer::find(&config, "/servers/2").map(|_| ());
-    assert!(rt;
-        found
-            == Err(Missing {
-                token: 1,
-                reason: Reason::OutOfRange
-            })
-    );
+    if let Err(error) = pointer::find(&config, "/servers/2/port") {
+        let words = format!(in alloc; "{}", error.in_pointer("/servers/2/port"))?;
+        assert_eq!(rt; words.as_str(), "/servers/2/port: /servers has 2 elements");
+    }
+    let mut path = String::from_str(alloc, "/servers/0")?;
+    pointer::push_token(&mut path, "a/b")?;
+    assert_eq!(rt; path.as_str(), "/servers/0/a~1b");
     Ok(())
 }

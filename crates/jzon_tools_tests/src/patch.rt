@@ -5,6 +5,7 @@ use jzon::JsonValue;
 use jzon_test_support::{RUNS_MAX, Refusals, rows};
 use jzon_tools::patch::{self, Cause, PatchError};
 use jzon_tools::pointer::PointerError::{Missing, NoSlash, WholeValue};
+use jzon_tools::pointer::Primitive;
 use jzon_tools::pointer::Reason::{NoChildren, NoMember, NotAnIndex, OutOfRange};
 use std::io;
 use std::test::Fail;
@@ -59,7 +60,7 @@ fn applies(rt: HostRuntime) -> Tested {
 /// A value, a patch that isn't applied to it, and why. First the examples of RFC 6902, appendix A.
 const REFUSED: &[(&str, &str, Option<usize>, Cause)] = rows! {
     (r#"{"baz":"qux"}"#, r#"[{"op":"test","path":"/baz","value":"bar"}]"#, Some(0), Cause::TestFailed)
-    (r#"{"foo":"bar"}"#, r#"[{"op":"add","path":"/baz/bat","value":"qux"}]"#, Some(0), Cause::Pointer("path", Missing { token: 0, reason: NoMember }))
+    (r#"{"foo":"bar"}"#, r#"[{"op":"add","path":"/baz/bat","value":"qux"}]"#, Some(0), Cause::Pointer("path", Missing { start: 1, end: 4, reason: NoMember }))
     (r#"{"/":9,"~1":10}"#, r#"[{"op":"test","path":"/~01","value":"10"}]"#, Some(0), Cause::TestFailed)
     (r#"{"a":1}"#, "{}", None, Cause::NotAnArray)
     (r#"{"a":1}"#, "5", None, Cause::NotAnArray)
@@ -74,25 +75,25 @@ const REFUSED: &[(&str, &str, Option<usize>, Cause)] = rows! {
     (r#"{"a":1}"#, r#"[{"op":"copy","from":5,"path":"/a"}]"#, Some(0), Cause::NotAString("from"))
     (r#"{"a":1}"#, r#"[{"op":"add","path":"a","value":2}]"#, Some(0), Cause::Pointer("path", NoSlash))
     (r#"{"a":1}"#, r#"[{"op":"remove","path":""}]"#, Some(0), Cause::Pointer("path", WholeValue))
-    ("{}", r#"[{"op":"test","path":"/a","value":null}]"#, Some(0), Cause::Pointer("path", Missing { token: 0, reason: NoMember }))
-    ("{}", r#"[{"op":"replace","path":"/a","value":null}]"#, Some(0), Cause::Pointer("path", Missing { token: 0, reason: NoMember }))
-    ("[1,2]", r#"[{"op":"add","path":"/3","value":0}]"#, Some(0), Cause::Pointer("path", Missing { token: 0, reason: OutOfRange }))
-    ("[1,2]", r#"[{"op":"add","path":"/-1","value":0}]"#, Some(0), Cause::Pointer("path", Missing { token: 0, reason: NotAnIndex }))
-    ("[1,2]", r#"[{"op":"add","path":"/01","value":0}]"#, Some(0), Cause::Pointer("path", Missing { token: 0, reason: NotAnIndex }))
-    ("[1,2]", r#"[{"op":"add","path":"/1e0","value":0}]"#, Some(0), Cause::Pointer("path", Missing { token: 0, reason: NotAnIndex }))
-    ("[1,2]", r#"[{"op":"add","path":"/+1","value":0}]"#, Some(0), Cause::Pointer("path", Missing { token: 0, reason: NotAnIndex }))
-    ("[1,2]", r#"[{"op":"add","path":"/","value":0}]"#, Some(0), Cause::Pointer("path", Missing { token: 0, reason: NotAnIndex }))
-    ("[1,2]", r#"[{"op":"add","path":"/a","value":0}]"#, Some(0), Cause::Pointer("path", Missing { token: 0, reason: NotAnIndex }))
-    ("[1,2]", r#"[{"op":"add","path":"/0/a","value":0}]"#, Some(0), Cause::Pointer("path", Missing { token: 1, reason: NoChildren }))
-    ("[1,2]", r#"[{"op":"remove","path":"/-"}]"#, Some(0), Cause::Pointer("path", Missing { token: 0, reason: NotAnIndex }))
-    ("[1,2]", r#"[{"op":"remove","path":"/2"}]"#, Some(0), Cause::Pointer("path", Missing { token: 0, reason: OutOfRange }))
-    ("[1,2]", r#"[{"op":"replace","path":"/-","value":0}]"#, Some(0), Cause::Pointer("path", Missing { token: 0, reason: NotAnIndex }))
-    ("[1,2]", r#"[{"op":"replace","path":"/2","value":0}]"#, Some(0), Cause::Pointer("path", Missing { token: 0, reason: OutOfRange }))
+    ("{}", r#"[{"op":"test","path":"/a","value":null}]"#, Some(0), Cause::Pointer("path", Missing { start: 1, end: 2, reason: NoMember }))
+    ("{}", r#"[{"op":"replace","path":"/a","value":null}]"#, Some(0), Cause::Pointer("path", Missing { start: 1, end: 2, reason: NoMember }))
+    ("[1,2]", r#"[{"op":"add","path":"/3","value":0}]"#, Some(0), Cause::Pointer("path", Missing { start: 1, end: 2, reason: OutOfRange { length: 2 } }))
+    ("[1,2]", r#"[{"op":"add","path":"/-1","value":0}]"#, Some(0), Cause::Pointer("path", Missing { start: 1, end: 3, reason: NotAnIndex }))
+    ("[1,2]", r#"[{"op":"add","path":"/01","value":0}]"#, Some(0), Cause::Pointer("path", Missing { start: 1, end: 3, reason: NotAnIndex }))
+    ("[1,2]", r#"[{"op":"add","path":"/1e0","value":0}]"#, Some(0), Cause::Pointer("path", Missing { start: 1, end: 4, reason: NotAnIndex }))
+    ("[1,2]", r#"[{"op":"add","path":"/+1","value":0}]"#, Some(0), Cause::Pointer("path", Missing { start: 1, end: 3, reason: NotAnIndex }))
+    ("[1,2]", r#"[{"op":"add","path":"/","value":0}]"#, Some(0), Cause::Pointer("path", Missing { start: 1, end: 1, reason: NotAnIndex }))
+    ("[1,2]", r#"[{"op":"add","path":"/a","value":0}]"#, Some(0), Cause::Pointer("path", Missing { start: 1, end: 2, reason: NotAnIndex }))
+    ("[1,2]", r#"[{"op":"add","path":"/0/a","value":0}]"#, Some(0), Cause::Pointer("path", Missing { start: 3, end: 4, reason: NoChildren(Primitive::Number) }))
+    ("[1,2]", r#"[{"op":"remove","path":"/-"}]"#, Some(0), Cause::Pointer("path", Missing { start: 1, end: 2, reason: NotAnIndex }))
+    ("[1,2]", r#"[{"op":"remove","path":"/2"}]"#, Some(0), Cause::Pointer("path", Missing { start: 1, end: 2, reason: OutOfRange { length: 2 } }))
+    ("[1,2]", r#"[{"op":"replace","path":"/-","value":0}]"#, Some(0), Cause::Pointer("path", Missing { start: 1, end: 2, reason: NotAnIndex }))
+    ("[1,2]", r#"[{"op":"replace","path":"/2","value":0}]"#, Some(0), Cause::Pointer("path", Missing { start: 1, end: 2, reason: OutOfRange { length: 2 } }))
     (r#"{"a":{"b":1}}"#, r#"[{"op":"move","from":"/a","path":"/a/b"}]"#, Some(0), Cause::IntoItself)
     (r#"{"a":{"b":1}}"#, r#"[{"op":"move","from":"","path":"/a"}]"#, Some(0), Cause::IntoItself)
-    (r#"{"a":1}"#, r#"[{"op":"move","from":"/b","path":"/b"}]"#, Some(0), Cause::Pointer("from", Missing { token: 0, reason: NoMember }))
-    (r#"{"a":1}"#, r#"[{"op":"copy","from":"/b","path":"/a"}]"#, Some(0), Cause::Pointer("from", Missing { token: 0, reason: NoMember }))
-    (r#"{"a":1,"b":2}"#, r#"[{"op":"move","from":"/a","path":"/c/d"}]"#, Some(0), Cause::Pointer("path", Missing { token: 0, reason: NoMember }))
+    (r#"{"a":1}"#, r#"[{"op":"move","from":"/b","path":"/b"}]"#, Some(0), Cause::Pointer("from", Missing { start: 1, end: 2, reason: NoMember }))
+    (r#"{"a":1}"#, r#"[{"op":"copy","from":"/b","path":"/a"}]"#, Some(0), Cause::Pointer("from", Missing { start: 1, end: 2, reason: NoMember }))
+    (r#"{"a":1,"b":2}"#, r#"[{"op":"move","from":"/a","path":"/c/d"}]"#, Some(0), Cause::Pointer("path", Missing { start: 1, end: 2, reason: NoMember }))
     (r#"{"a":1,"b":[1]}"#, r#"[{"op":"remove","path":"/a"},{"op":"add","path":"/b/0","value":0},{"op":"test","path":"/b/0","value":9}]"#, Some(2), Cause::TestFailed)
 };
 
@@ -145,15 +146,19 @@ fn shows_errors(rt: HostRuntime) -> Tested {
     Ok(())
 }
 
-/// A value, a patch that changes it, and the number of allocations. Tests, and one change after
-/// them, clone nothing of the value; a move, or two changes, clone it once.
+/// A value, a patch that changes it, and the number of allocations. A move, or two changes, clone
+/// the value once.
 const ALLOCATING: &[(&str, &str, usize)] = rows! {
-    (r#"{"a":[1]}"#, r#"[{"op":"test","path":"/a","value":[1]},{"op":"remove","path":"/a"}]"#, 0)
-    (r#"{"a":[1]}"#, r#"[{"op":"replace","path":"/a","value":2}]"#, 0)
     ("[1]", r#"[{"op":"add","path":"/-","value":[2]}]"#, 2)
     ("[[1]]", r#"[{"op":"copy","from":"/0","path":"/0"}]"#, 2)
     ("[[1],2]", r#"[{"op":"move","from":"/0","path":"/1"}]"#, 2)
     ("[[1],2]", r#"[{"op":"remove","path":"/0"},{"op":"remove","path":"/0"}]"#, 2)
+};
+
+/// A value, and a patch that changes it. Tests, and one change after them, clone nothing of the value.
+const WITHOUT_ALLOCATION: &[(&str, &str)] = rows! {
+    (r#"{"a":[1]}"#, r#"[{"op":"test","path":"/a","value":[1]},{"op":"remove","path":"/a"}]"#)
+    (r#"{"a":[1]}"#, r#"[{"op":"replace","path":"/a","value":2}]"#)
 };
 
 /// One run. Whether an allocation failed: then the value is as it was.
@@ -198,6 +203,22 @@ fn applies_under_refusals(rt: HostRuntime) -> Tested {
     Ok(())
 }
 
+#[test]
+fn applies_counted(rt: HostRuntime) -> Tested {
+    for (before, text) in WITHOUT_ALLOCATION {
+        let before = jzon::parse(rt.alloc(), before)?;
+        let patch = jzon::parse(rt.alloc(), text)?;
+        let mut value = before.clone(rt.alloc())?;
+        let mut refusals = Refusals::new(rt.alloc());
+        refusals.open();
+        let outcome = patch::apply(rt.alloc(), &mut value, &patch);
+        refusals.expect_within(&rt, text, 0)?;
+        expect_eq(&rt, text, outcome, Ok(()));
+        expect(&rt, text, value != before);
+    }
+    Ok(())
+}
+
 /// An error is shown with its pointer, which the patch has.
 #[test]
 fn shows_pointers(rt: HostRuntime) -> Tested {
@@ -224,7 +245,9 @@ fn shows_pointers(rt: HostRuntime) -> Tested {
 /// Errors, and their words with the pointer.
 const SHOWN: &[(Option<usize>, Cause, &str)] = rows! {
     (Some(1), Cause::TestFailed, "operation 1: /b/0: test failed")
-    (Some(0), Cause::Pointer("from", NoSlash), "operation 0: /x: `from`: The pointer begins with no /")
+    (Some(0), Cause::Pointer("from", NoSlash), "operation 0: `from`: /x: a pointer begins with /")
+    (Some(0), Cause::Pointer("from", Missing { start: 1, end: 2, reason: NoMember }), "operation 0: `from`: /x: the whole value has no key \"x\"")
+    (Some(1), Cause::Pointer("path", Missing { start: 3, end: 4, reason: NoChildren(Primitive::Number) }), "operation 1: `path`: /b/0: /b is a number and has no members")
     (Some(7), Cause::NotAnObject, "operation 7: not an object")
     (None, Cause::NotAnArray, "the patch isn't an array")
     (Some(1), Cause::OutOfMemory, "operation 1: /b/0: out of memory")

@@ -1,12 +1,12 @@
 //! Tests of `pointer`.
 
 use crate::common::{Tested, Tester, expect, expect_dump, expect_eq};
-use Change::{GetMut, Insert, Remove, Replace};
+use Change::{Insert, Remove, Replace, Update};
 use jzon::JsonValue;
 use jzon_test_support::{RUNS_MAX, Refusals, rows};
 use jzon_tools::pointer::PointerError::{Missing, NoSlash, WholeValue};
 use jzon_tools::pointer::Reason::{BadEscape, NoChildren, NoMember, NotAnIndex, OutOfRange};
-use jzon_tools::pointer::{self, PointerError};
+use jzon_tools::pointer::{self, InPointer, PointerError, Primitive, Reason};
 use std::io::{self, ErrorKind};
 use std::test::Fail;
 
@@ -31,60 +31,77 @@ const FOUND: &[(&str, &str)] = rows! {
     ("/foo/1", r#""baz""#)
 };
 
-/// Pointers that name nothing in the text, and why.
-const MISSING: &[(&str, PointerError)] = rows! {
-    ("a", NoSlash)
-    ("foo/0", NoSlash)
-    ("#/foo", NoSlash)
-    ("/~2", Missing { token: 0, reason: BadEscape })
-    ("/~", Missing { token: 0, reason: BadEscape })
-    ("/foo/~", Missing { token: 1, reason: BadEscape })
-    ("/foo/0/~2/x", Missing { token: 2, reason: BadEscape })
-    ("/bar", Missing { token: 0, reason: NoMember })
-    ("/m~n", Missing { token: 0, reason: BadEscape })
-    ("/m~1n", Missing { token: 0, reason: NoMember })
-    ("/m~01n", Missing { token: 0, reason: NoMember })
-    ("/a/b", Missing { token: 0, reason: NoMember })
-    ("//", Missing { token: 1, reason: NoChildren })
-    ("/foo/", Missing { token: 1, reason: NotAnIndex })
-    ("/foo/01", Missing { token: 1, reason: NotAnIndex })
-    ("/foo/+1", Missing { token: 1, reason: NotAnIndex })
-    ("/foo/-", Missing { token: 1, reason: NotAnIndex })
-    ("/foo/1e0", Missing { token: 1, reason: NotAnIndex })
-    ("/foo/2", Missing { token: 1, reason: OutOfRange })
-    ("/foo/18446744073709551616", Missing { token: 1, reason: OutOfRange })
-    ("/foo/0/x", Missing { token: 2, reason: NoChildren })
-    ("/foo/bar/x", Missing { token: 1, reason: NotAnIndex })
+/// Pointers that name nothing in the text, the bytes of the first token that names nothing, and why.
+const MISSING: &[(&str, usize, usize, Reason)] = rows! {
+    ("/~2", 1, 3, BadEscape)
+    ("/~", 1, 2, BadEscape)
+    ("/foo/~", 5, 6, BadEscape)
+    ("/foo/0/~2/x", 7, 9, BadEscape)
+    ("/bar", 1, 4, NoMember)
+    ("/m~n", 1, 4, BadEscape)
+    ("/m~1n", 1, 5, NoMember)
+    ("/m~01n", 1, 6, NoMember)
+    ("/a/b", 1, 2, NoMember)
+    ("/é/x", 1, 3, NoMember)
+    ("//", 2, 2, NoChildren(Primitive::Number))
+    ("/foo/", 5, 5, NotAnIndex)
+    ("/foo/01", 5, 7, NotAnIndex)
+    ("/foo/+1", 5, 7, NotAnIndex)
+    ("/foo/-", 5, 6, NotAnIndex)
+    ("/foo/1e0", 5, 8, NotAnIndex)
+    ("/foo/2", 5, 6, OutOfRange { length: 2 })
+    ("/foo/18446744073709551616", 5, 25, OutOfRange { length: 2 })
+    ("/foo/0/x", 7, 8, NoChildren(Primitive::String))
+    ("/foo/bar/x", 5, 8, NotAnIndex)
 };
+
+/// Texts that aren't empty, and begin with no slash.
+const NO_POINTERS: &[&str] = &["a", "foo/0", "#/foo"];
 
 #[test]
 fn finds(rt: HostRuntime) -> Tested {
-    let mut value = jzon::parse(rt.alloc(), TEXT)?;
+    let value = jzon::parse(rt.alloc(), TEXT)?;
     for (path, text) in FOUND {
         let found = pointer::get(&value, path).ok_or("no value")?;
         expect_dump(&rt, found, text)?;
-        let place = pointer::get_mut(&mut value, path).ok_or("no place")?;
-        expect_dump(&rt, place, text)?;
+        expect(&rt, path, pointer::find(&value, path) == Ok(found));
     }
     Ok(())
+}
+
+/// No call finds a value, and none changes one.
+fn expect_missing(
+    rt: &impl Tester,
+    value: &mut JsonValue,
+    path: &str,
+    error: PointerError,
+) -> Tested {
+    let found = pointer::find(value, path).map(|_| ());
+    expect_eq(rt, path, found, Err(error));
+    expect(rt, path, pointer::get(value, path).is_none());
+    let updated = pointer::update(value, path, |place| *place = JsonValue::Null);
+    expect_eq(rt, path, updated, Err(error));
+    let replaced = pointer::replace(value, path, JsonValue::Null).map(drop);
+    expect_eq(rt, path, replaced, Err(error));
+    let removed = pointer::remove(value, path).map(drop);
+    expect_eq(rt, path, removed, Err(error));
+    expect_dump(rt, value, TEXT)
 }
 
 #[test]
 fn says_what_is_missing(rt: HostRuntime) -> Tested {
     let mut value = jzon::parse(rt.alloc(), TEXT)?;
-    for (path, error) in MISSING {
-        let found = pointer::find(&value, path).map(|_| ());
-        expect_eq(&rt, path, found, Err(*error));
-        expect(&rt, path, pointer::get(&value, path).is_none());
-        expect(&rt, path, pointer::get_mut(&mut value, path).is_none());
-        let updated = pointer::update(&mut value, path, |place| *place = JsonValue::Null);
-        expect_eq(&rt, path, updated, Err(*error));
-        let replaced = pointer::replace(&mut value, path, JsonValue::Null).map(drop);
-        expect_eq(&rt, path, replaced, Err(*error));
-        let removed = pointer::remove(&mut value, path).map(drop);
-        expect_eq(&rt, path, removed, Err(*error));
+    for (path, start, end, reason) in MISSING {
+        expect_missing(&rt, &mut value, path, missing(*start, *end, *reason))?;
     }
-    expect_dump(&rt, &value, TEXT)
+    for path in NO_POINTERS {
+        expect_missing(&rt, &mut value, path, NoSlash)?;
+    }
+    Ok(())
+}
+
+fn missing(start: usize, end: usize, reason: Reason) -> PointerError {
+    PointerError::Missing { start, end, reason }
 }
 
 #[derive(Clone, Copy)]
@@ -92,7 +109,7 @@ enum Change {
     Replace,
     Insert,
     Remove,
-    GetMut,
+    Update,
 }
 
 /// A change with the value 9, and what it returns.
@@ -107,12 +124,10 @@ fn changed(
         Replace => pointer::replace(value, path, new),
         Insert => pointer::insert(rt.alloc(), value, path, new).map(|_| JsonValue::Null),
         Remove => pointer::remove(value, path),
-        GetMut => {
-            if let Some(place) = pointer::get_mut(value, path) {
-                *place = new;
-            }
-            Ok(JsonValue::Null)
-        }
+        Update => pointer::update(value, path, |place| {
+            *place = new;
+            JsonValue::Null
+        }),
     }
 }
 
@@ -123,7 +138,14 @@ const CHANGES: &[(Change, &str, &str, &str, &str)] = rows! {
     (Replace, r#"{"c":2,"a/b":[1]}"#, "/a~1b/0", "1", r#"{"c":2,"a/b":[9]}"#)
     (Replace, r#"{"/":1,"~1":2}"#, "/~01", "2", r#"{"/":1,"~1":9}"#)
     (Replace, "[1]", "", "[1]", "9")
-    (GetMut, r#"{"a":[1,{"b/":2}]}"#, "/a/1/b~1", "null", r#"{"a":[1,{"b/":9}]}"#)
+    (Replace, "[null,null]", "/1", "null", "[null,9]")
+    (Replace, r#"{"a":1,"b":1}"#, "/b", "1", r#"{"a":1,"b":9}"#)
+    (Replace, r#"{"a~":1,"b~":1}"#, "/b~0", "1", r#"{"a~":1,"b~":9}"#)
+    (Update, r#"{"a":[1,{"b/":2}]}"#, "/a/1/b~1", "null", r#"{"a":[1,{"b/":9}]}"#)
+    (Update, "[null,null]", "/1", "null", "[null,9]")
+    (Update, r#"{"a":null,"b":null}"#, "/b", "null", r#"{"a":null,"b":9}"#)
+    (Update, r#"{"a":[1],"b":[1]}"#, "/b/0", "null", r#"{"a":[1],"b":[9]}"#)
+    (Update, "[1]", "", "null", "9")
     (Insert, r#"{"a":{"b":1}}"#, "/a/c", "null", r#"{"a":{"b":1,"c":9}}"#)
     (Insert, r#"{"a":{"b":1,"c":2}}"#, "/a/b", "null", r#"{"a":{"b":9,"c":2}}"#)
     (Insert, r#"{"a":1}"#, "/m~0~1n", "null", r#"{"a":1,"m~/n":9}"#)
@@ -151,21 +173,22 @@ fn changes(rt: HostRuntime) -> Tested {
     Ok(())
 }
 
-/// An insertion or a removal that fails.
+/// Changes that fail.
 const FAILED: &[(Change, &str, &str, PointerError)] = rows! {
     (Insert, "[1,2]", "", WholeValue)
     (Insert, "[1,2]", "0", NoSlash)
     (Insert, "[1,2]", "a/0", NoSlash)
-    (Insert, "[1,2]", "/3", Missing { token: 0, reason: OutOfRange })
-    (Insert, "[1,2]", "/01", Missing { token: 0, reason: NotAnIndex })
-    (Insert, "[1,2]", "/0/-", Missing { token: 1, reason: NoChildren })
-    (Insert, r#"{"a":{}}"#, "/b/c", Missing { token: 0, reason: NoMember })
-    (Insert, r#"{"a":{}}"#, "/a/~", Missing { token: 1, reason: BadEscape })
+    (Insert, "[1,2]", "/3", Missing { start: 1, end: 2, reason: OutOfRange { length: 2 } })
+    (Insert, "[1,2]", "/01", Missing { start: 1, end: 3, reason: NotAnIndex })
+    (Insert, "[1,2]", "/0/-", Missing { start: 3, end: 4, reason: NoChildren(Primitive::Number) })
+    (Insert, r#"{"a":{}}"#, "/b/c", Missing { start: 1, end: 2, reason: NoMember })
+    (Insert, r#"{"a":{}}"#, "/a/~", Missing { start: 3, end: 4, reason: BadEscape })
     (Remove, "[1,2]", "", WholeValue)
-    (Remove, "[1,2]", "/-", Missing { token: 0, reason: NotAnIndex })
-    (Remove, "[1,2]", "/2", Missing { token: 0, reason: OutOfRange })
-    (Remove, r#"{"a~":1}"#, "/b~0", Missing { token: 0, reason: NoMember })
-    (Replace, r#"{"a~":1}"#, "/a~2", Missing { token: 0, reason: BadEscape })
+    (Remove, "[1,2]", "/-", Missing { start: 1, end: 2, reason: NotAnIndex })
+    (Remove, "[1,2]", "/2", Missing { start: 1, end: 2, reason: OutOfRange { length: 2 } })
+    (Remove, r#"{"a~":1}"#, "/b~0", Missing { start: 1, end: 4, reason: NoMember })
+    (Replace, r#"{"a~":1}"#, "/a~2", Missing { start: 1, end: 4, reason: BadEscape })
+    (Update, "[null]", "/1", Missing { start: 1, end: 2, reason: OutOfRange { length: 1 } })
 };
 
 #[test]
@@ -195,14 +218,75 @@ fn updates(rt: HostRuntime) -> Tested {
 /// The words of each error.
 const WORDS: &[(PointerError, &str)] = rows! {
     (NoSlash, "The pointer begins with no /")
-    (Missing { token: 2, reason: BadEscape }, "Token 2: ~ without 0 or 1 after it")
-    (Missing { token: 0, reason: NoMember }, "Token 0: no such key")
-    (Missing { token: 1, reason: NotAnIndex }, "Token 1: not an index")
-    (Missing { token: 1, reason: OutOfRange }, "Token 1: index out of range")
-    (Missing { token: 1, reason: NoChildren }, "Token 1: neither an array nor an object")
+    (Missing { start: 8, end: 10, reason: BadEscape }, "At byte 8 of the pointer: ~ without 0 or 1 after it")
+    (Missing { start: 1, end: 4, reason: NoMember }, "At byte 1 of the pointer: no such key")
+    (Missing { start: 3, end: 3, reason: NotAnIndex }, "At byte 3 of the pointer: not an index of an array")
+    (Missing { start: 1, end: 2, reason: OutOfRange { length: 0 } }, "At byte 1 of the pointer: the array has 0 elements")
+    (Missing { start: 1, end: 2, reason: OutOfRange { length: 1 } }, "At byte 1 of the pointer: the array has 1 element")
+    (Missing { start: 12, end: 13, reason: OutOfRange { length: 30 } }, "At byte 12 of the pointer: the array has 30 elements")
+    (Missing { start: 1, end: 2, reason: NoChildren(Primitive::Null) }, "At byte 1 of the pointer: null has no members")
+    (Missing { start: 1, end: 2, reason: NoChildren(Primitive::Boolean) }, "At byte 1 of the pointer: a boolean has no members")
+    (Missing { start: 1, end: 2, reason: NoChildren(Primitive::Number) }, "At byte 1 of the pointer: a number has no members")
+    (Missing { start: 1, end: 2, reason: NoChildren(Primitive::String) }, "At byte 1 of the pointer: a string has no members")
     (WholeValue, "The pointer names the whole value")
     (PointerError::OutOfMemory, "Out of memory")
 };
+
+/// A value, a pointer that names nothing there, and the words of the error with the pointer.
+const POINTED: &[(&str, &str, &str)] = rows! {
+    (r#"{"server":5}"#, "/server/port", "/server/port: /server is a number and has no members")
+    (r#"{"servers":[1,2,3]}"#, "/servers/9", "/servers/9: /servers has 3 elements")
+    (r#"{"server":{"port":80}}"#, "/server/prot", "/server/prot: /server has no key \"prot\"")
+    (r#"{"server":{"port":80}}"#, "/servr/port", "/servr/port: the whole value has no key \"servr\"")
+    ("{}", "/a~2b", "/a~2b: ~ without 0 or 1 after it")
+    ("[1]", "/1", "/1: the whole value has 1 element")
+    (r#"{"a":[]}"#, "/a/0/b", "/a/0/b: /a has 0 elements")
+    (r#"{"a":[1]}"#, "/a/-", "/a/-: /a is an array, and \"-\" is no index")
+    ("null", "/a", "/a: the whole value is null and has no members")
+    (r#"{"a":true}"#, "/a/b", "/a/b: /a is a boolean and has no members")
+    (r#"{"a":"x"}"#, "/a/0", "/a/0: /a is a string and has no members")
+    (r#"{"a":{"é":1}}"#, "/a/é/x", "/a/é/x: /a/é is a number and has no members")
+    (r#"{"":{}}"#, "//", "//: / has no key \"\"")
+    ("1", "a", "a: a pointer begins with /")
+};
+
+#[test]
+fn shows_errors_in_pointers(rt: HostRuntime) -> Tested {
+    for (text, path, words) in POINTED {
+        let value = jzon::parse(rt.alloc(), text)?;
+        if let Err(error) = pointer::find(&value, path) {
+            expect_words(&rt, error.in_pointer(path), words)?;
+        } else {
+            expect(&rt, path, false);
+        }
+    }
+    let whole = pointer::remove(&mut JsonValue::Null, "").map(drop);
+    expect_eq(&rt, "whole", whole, Err(WholeValue));
+    expect_words(
+        &rt,
+        WholeValue.in_pointer(""),
+        "The pointer names the whole value",
+    )?;
+    expect_words(
+        &rt,
+        PointerError::OutOfMemory.in_pointer("/a"),
+        "Out of memory",
+    )?;
+    // Neither position is one of a character of these pointers.
+    let error = missing(3, 9, NoMember);
+    expect_words(&rt, error.in_pointer("/é"), "/é: /é has no key \"\"")?;
+    expect_words(&rt, error.in_pointer("é"), "é: é has no key \"\"")
+}
+
+/// Its words, also as those of an `io::Error`.
+fn expect_words(rt: &impl Tester, error: InPointer<'_>, words: &str) -> Tested {
+    let text = format!(in rt.alloc(); "{error}")?;
+    expect_eq(rt, words, text.as_str(), words);
+    let raised = io::Error::from(error);
+    let message = format!(in rt.alloc(); "{raised}")?;
+    expect_eq(rt, words, message.as_str(), words);
+    Ok(())
+}
 
 #[test]
 fn shows_errors(rt: HostRuntime) -> Tested {
@@ -266,6 +350,91 @@ fn inserts_under_refusals(rt: HostRuntime) -> Tested {
             }
         }
         refusals.report(&rt, path, *count)?;
+    }
+    Ok(())
+}
+
+/// A thousand elements are put last, each by a call.
+#[test]
+fn inserts_counted(rt: HostRuntime) -> Tested {
+    let mut value = JsonValue::new_array(rt.alloc());
+    let mut refusals = Refusals::new(rt.alloc());
+    refusals.open();
+    for number in 0..1000u32 {
+        pointer::insert(rt.alloc(), &mut value, "/-", JsonValue::from(number))?;
+    }
+    refusals.close();
+    refusals.expect_within(&rt, "inserts at the end", 48 * 4 * 1000)?;
+    expect_eq(&rt, "how many", value.len(), 1000);
+    Ok(())
+}
+
+/// A pointer, a key, and the pointer one key deeper.
+const PUSHED: &[(&str, &str, &str)] = rows! {
+    ("", "a", "/a")
+    ("", "", "/")
+    ("/a", "", "/a/")
+    ("/a/0", "b/c", "/a/0/b~1c")
+    ("/a", "m~n", "/a/m~0n")
+    ("", "~1", "/~01")
+    ("", "/0", "/~10")
+    ("/x", "~/~~//", "/x/~0~1~0~0~1~1")
+    ("/é", "é", "/é/é")
+};
+
+#[test]
+fn pushes_tokens(rt: HostRuntime) -> Tested {
+    let alloc = rt.alloc();
+    for (before, key, after) in PUSHED {
+        let mut path = String::from_str(alloc, before)?;
+        pointer::push_token(&mut path, key)?;
+        expect_eq(&rt, after, path.as_str(), *after);
+        let mut path = String::new(alloc);
+        pointer::push_token(&mut path, key)?;
+        let mut object = JsonValue::new_object(alloc);
+        object.insert(alloc, key, 5u8)?;
+        expect(
+            &rt,
+            key,
+            pointer::get(&object, path.as_str()) == object.get(key),
+        );
+    }
+    Ok(())
+}
+
+/// One run. Whether an allocation failed: then the pointer is as it was.
+fn push_run(
+    rt: &impl Tester,
+    key: &str,
+    refusals: &mut Refusals,
+) -> std::result::Result<bool, Fail> {
+    let mut path = String::from_str(rt.alloc(), "/a")?;
+    refusals.begin();
+    let outcome = pointer::push_token(&mut path, key);
+    let has_failed = refusals.has_failed();
+    expect(rt, key, outcome.is_err() == has_failed);
+    expect(rt, key, (path.as_str() == "/a") == has_failed);
+    Ok(has_failed)
+}
+
+/// A key, and how many allocations its token takes.
+const PUSHES: &[(&str, usize)] = rows! {
+    ("a key of more than eight bytes", 3)
+};
+
+#[test]
+fn pushes_under_refusals(rt: HostRuntime) -> Tested {
+    for (key, count) in PUSHES {
+        let mut refusals = Refusals::new(rt.alloc());
+        for _ in 0..RUNS_MAX {
+            refusals.open();
+            let has_failed = push_run(&rt, key, &mut refusals)?;
+            refusals.close();
+            if !has_failed {
+                break;
+            }
+        }
+        refusals.report(&rt, key, *count)?;
     }
     Ok(())
 }

@@ -1,9 +1,10 @@
 //! A step before a JSON pointer (RFC 6901, sections 3 and 4).
 
-ghost use Rattle.std.specs.Prelude.{◌≡◌, ◌∷◌, ◌++◌, IfOk, OnOk, string_bytes};
+ghost use Rattle.std.specs.Prelude.{◌≡◌, ◌∷◌, ◌++◌, IfOk, string_bytes};
 ghost use Rattle.std.specs.Fmt.{decimal};
-ghost use Rattle.jzon_tools.specs.Escaped.{escaped, slashed};
+ghost use Rattle.jzon_tools.specs.Escaped.{escaped};
 
+use crate::token::push_escaped;
 use std::alloc::{AllocError, Global};
 use std::fmt::Write;
 use std::result::Result;
@@ -25,31 +26,4 @@ pub fn below_index(alloc: Global, index: usize, pointer: &str) -> Result<String,
     ensures { IfOk result (λ t. string_bytes t ≡ 47 ∷ decimal index ++ pointer.now) }
 {
     format!(in alloc; "/{index}{pointer}")
-}
-
-/// The token of a key: `~0` for each `~`, and `~1` for each `/`.
-fn push_escaped(text: &mut String, key: &str) -> Result<(), AllocError>
-    ensures { OnOk result (string_bytes text.new ≡ string_bytes text.old ++ escaped key.now) }
-{
-    let mut rest = key;
-    'escapes: while let Some((plain, after)) = rest.split_once('~') {
-        push_slashed(text, plain)?;
-        text.push_str("~0")?;
-        rest = after;
-    }
-    push_slashed(text, rest)
-}
-
-/// `~1` for each `/`.
-fn push_slashed(text: &mut String, key: &str) -> Result<(), AllocError>
-    ensures { OnOk result (string_bytes text.new ≡ string_bytes text.old ++ slashed key.now) }
-{
-    let mut rest = key;
-    'escapes: while let Some((plain, after)) = rest.split_once('/') {
-        text.push_str(plain)?;
-        text.push_str("~1")?;
-        rest = after;
-    }
-    text.push_str(rest)?;
-    Ok(())
 }

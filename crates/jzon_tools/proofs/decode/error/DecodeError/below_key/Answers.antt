@@ -1,7 +1,8 @@
 use Rattle.std.proofs.Common.{◌∷◌, ◌++◌, sym, ap, ◌∙◌, subst}
 use Rattle.jzon_tools.specs.Decode.{IsErrorIn}
 use Rattle.jzon_tools.specs.Escaped.{escaped}
-use Rattle.jzon_tools.proofs.DecodeSteps.{below-error, key-child, lacks-escaped}
+use Rattle.jzon_tools.proofs.DecodeSteps.{below-error, key-child}
+use Rattle.jzon_tools.proofs.EscapedSteps.{lacks-escaped}
 use Rattle.jzon_tools.proofs.decode.error.DecodeError.below_key.Goals as goal
 
 pub returns-in-Ok : goal.returns-in-Ok

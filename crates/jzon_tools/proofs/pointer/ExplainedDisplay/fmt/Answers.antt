@@ -1,0 +1,18 @@
+use Rattle.std.proofs.Common.{◌≡◌, ◌++◌, ℕ, List, codes, sym, ap, ◌∙◌, append_assoc}
+use Rattle.std.proofs.Output.{has_written_of_eq}
+use Rattle.jzon_tools.specs.ErrorTexts.{explained}
+use Rattle.jzon_tools.specs.declared.pointer.Reason.{Reason}
+use Rattle.jzon_tools.specs.declared.pointer.Reason.TheVariants.{NoMember}
+use Rattle.jzon_tools.proofs.pointer.ExplainedDisplay.fmt.Goals as goal
+
+no_member-text : (r : Reason) (p t : List ℕ) → r ≡ NoMember
+    → p ++ (codes " has no key \"" ++ (t ++ codes "\"")) ≡ explained r p t
+no_member-text r p t is =
+    sym (ap (λ x. explained x p t) is ∙ append_assoc (p ++ codes " has no key \"") t (codes "\"")
+    ∙ append_assoc p (codes " has no key \"") (t ++ codes "\""))
+
+pub returns-in-NoMember-clause-writes : goal.returns-in-NoMember-clause-writes
+returns-in-NoMember-clause-writes g c = λ plain ok.
+    let e = c.args.self.now in
+    has_written_of_eq g.W.Write.write_str_gives _ _ _ _
+    (no_member-text e.reason e.parent.now e.token.now c.in-NoMember.is) (c.write.ensures.writes plain ok)
