@@ -3,8 +3,7 @@ use Rattle.std.specs.Prelude.{◌≡◌, ◌⊎◌, ℕ, ℤ, ◌≤◌, ◌<◌
 use Rattle.std.specs.Prelude.{FitsSigned, suc, map, take, false, Option, Some, slice_get}
 use Rattle.std.specs.Char.{is_ascii_digit}
 use Rattle.std.specs.Int.{w16}
-use Rattle.jzon_base.specs.Decimal.{parts}
-use Rattle.jzon_base.specs.Decimal as decimal
+use Rattle.jzon_base.specs.Decimal.{parts, same_decimal}
 use Rattle.jzon_base.specs.NumberText.{number_text, decimal_text}
 use Rattle.jzon_tree.specs.Value.{Value, nest}
 use Rattle.jzon_tree.specs.Text.{compact}
@@ -70,7 +69,7 @@ NumberText =
     (positive : Bool) (m : ℕ) (e : ℤ) → m < 2 ^ 64 → FitsSigned w16 e
     → ((n : Numeral)
     × ((r : Reading) → Parses r (chars (number_text positive m e)) (alone (Node.number n)))
-    × IsTrue (decimal.same (number_of n) (parts positive m e))
+    × IsTrue (same_decimal (number_of n) (parts positive m e))
     × (decimal_text (number_of n) ≡ number_text positive m e))
     × (length (number_text positive m e) ≤ 29)
 

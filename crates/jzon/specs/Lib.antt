@@ -21,10 +21,10 @@ pub use Rattle.jzon_base.specs.LostDigits
 pub use Rattle.jzon_base.specs.NumberText
 pub use Rattle.jzon_base.specs.PairList
 pub use Rattle.jzon_base.specs.Tokens
-pub use Rattle.jzon_base.specs.Written
+pub use Rattle.jzon_base.specs.PartialWrites
 pub use Rattle.jzon_base.specs.declared.error.Error
 pub use Rattle.jzon_tree.specs.Changers
-pub use Rattle.jzon_tree.specs.Displayed
+pub use Rattle.jzon_tree.specs.DisplayText
 pub use Rattle.jzon_tree.specs.Entries
 pub use Rattle.jzon_tree.specs.Generator
 pub use Rattle.jzon_tree.specs.Generators

@@ -8,7 +8,7 @@ ghost use Rattle.std.specs.Str.{IsCharBoundary};
 ghost use Rattle.jzon_base.specs.Decimal.{signed};
 ghost use Rattle.jzon_base.specs.Digits.{IsDigit, add_digit, digits_number, number_read};
 ghost use Rattle.jzon_base.specs.DigitLimits.{IsFirstTooMany};
-ghost use Rattle.jzon_base.specs.LostDigits.{HoldsOfNone, IsFirst, leaves_range, number_digits, mantissa_and_exponent, IsReadableNumber, IsFirstFault, IsFirstLost};
+ghost use Rattle.jzon_base.specs.LostDigits.{HoldsOfNone, IsFirst, leaves_range, number_digits, mantissa_and_exponent, IsReadableNumber, IsFirstNumberFault, IsFirstLost};
 ghost use Rattle.jzon.specs.declared.stop.Stop.TheVariants.{Inexact};
 ghost use Rattle.jzon.specs.Private.Stops.{stop_offset};
 ghost use Rattle.jzon_base.specs.declared.digits.NumberFault.{NumberFault};
@@ -95,7 +95,7 @@ fn read_rare(
         (IsReadableNumber exact (number_digits whole.now fraction.now positive_exponent exponent.now))
         (mantissa_and_exponent (number_digits whole.now fraction.now positive_exponent exponent.now)) }
     ensures stop { IfErr result (λ stop. (f : NumberFault)
-        × IsFirstFault exact (number_digits whole.now fraction.now positive_exponent exponent.now) f
+        × IsFirstNumberFault exact (number_digits whole.now fraction.now positive_exponent exponent.now) f
         × (stop ≡ number_stop start (length whole.now) (end - length exponent.now) f)) }
 {
     let parts = read_digits(whole, fraction, positive_exponent, exponent, exact);

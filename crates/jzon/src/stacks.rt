@@ -6,7 +6,7 @@ ghost use Rattle.std.specs.Prelude.{◌≡◌, ◌≢◌, ◌&&◌, if◌then◌
 ghost use Rattle.std.specs.List.{zip};
 ghost use Rattle.std.specs.Option.{is_some};
 ghost use Rattle.jzon_base.specs.PairList.{find, put_each};
-ghost use Rattle.jzon_base.specs.Private.Known.{Knows};
+ghost use Rattle.jzon_base.specs.Private.KnownKeys.{Knows};
 ghost use Rattle.jzon_tree.specs.Entries.{entries_of};
 ghost use Rattle.jzon_tree.specs.View.{view, view_object};
 ghost use Rattle.jzon.specs.Private.OpenContainers.{OpenContainers, entries_so_far, HasAllValues, AwaitsValue, new_container, IsAdded, IsClosed, whole, value_added, key_added, container_added, innermost_ended};

@@ -47,11 +47,11 @@ scaled m e = m * 10 ^ shifted e
 
 -- Equality as numbers: NaN equals only itself, all zeros are equal whatever their sign and exponent, and any other two
 -- are equal if the signs agree and the exact decimals are equal.
-abbrev pub same : Decimal → Decimal → Bool
-same nan nan = true
-same nan (parts q n f) = false
-same (parts p m e) nan = false
-same (parts p m e) (parts q n f) = ((m == 0) && (n == 0)) || (beq p q && (scaled m e == scaled n f))
+abbrev pub same_decimal : Decimal → Decimal → Bool
+same_decimal nan nan = true
+same_decimal nan (parts q n f) = false
+same_decimal (parts p m e) nan = false
+same_decimal (parts p m e) (parts q n f) = ((m == 0) && (n == 0)) || (beq p q && (scaled m e == scaled n f))
 
 -- n * 10 ^ f is m * 10 ^ e with its trailing zeros stripped while the exponent is negative
 pub record IsStripped (m : ℕ) (e : ℤ) (n : ℕ) (f : ℤ) : Type 0 where
@@ -140,4 +140,4 @@ integer_at (negsuc n) point = parts false (suc n) (neg_ℤ (pos point))
 -- the integer that is read at the point, divided by 10 ^ point again, is the number itself (its exponent fits in 16
 -- bits if the point is at most 32768)
 abbrev pub IsExactAt : Decimal → ℕ → Type 0
-IsExactAt d point = point ≤ 32768 → (n : ℤ) → fixed_point d point ≡ Some n → IsTrue (same d (integer_at n point))
+IsExactAt d point = point ≤ 32768 → (n : ℤ) → fixed_point d point ≡ Some n → IsTrue (same_decimal d (integer_at n point))

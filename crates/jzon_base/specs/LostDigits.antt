@@ -75,10 +75,10 @@ IsReadableNumber exact d = AreFewEnough d.whole d.fraction
     × HoldsOfNone (leaves_range d.whole d.fraction (signed d.positive)) d.exponent)
 
 -- the first digit for which it can't be read
-abbrev pub IsFirstFault : Bool → NumberDigits → NumberFault → Type 0
-IsFirstFault exact d (TooMany i) = IsFirstTooMany d.whole d.fraction i
+abbrev pub IsFirstNumberFault : Bool → NumberDigits → NumberFault → Type 0
+IsFirstNumberFault exact d (TooMany i) = IsFirstTooMany d.whole d.fraction i
     × (exact ≡ true → HoldsOfNoneBefore loses_last (d.whole ++ d.fraction) i)
-IsFirstFault exact d (Lost i) = (exact ≡ true) × IsFirstLost d.whole d.fraction i
-IsFirstFault exact d (OutOfRange i) = (exact ≡ true) × AreFewEnough d.whole d.fraction
+IsFirstNumberFault exact d (Lost i) = (exact ≡ true) × IsFirstLost d.whole d.fraction i
+IsFirstNumberFault exact d (OutOfRange i) = (exact ≡ true) × AreFewEnough d.whole d.fraction
     × HoldsOfNone loses_last (d.whole ++ d.fraction)
     × IsFirst (leaves_range d.whole d.fraction (signed d.positive)) d.exponent i

@@ -1,9 +1,9 @@
 -- Private definitions: how the code relates to those that public clauses cite. Of them the public clauses of `jzon` cite
--- only `value_at` and `Knows`.
+-- only `decimal_of` and `Knows`.
 pub mod Filter
 pub mod Hash
 pub mod Keys
-pub mod Known
+pub mod KnownKeys
 pub mod NumberFields
 pub mod PlainBytes
 pub mod Runs

@@ -12,7 +12,7 @@ ghost use Rattle.std.specs.List.{fold, prefix_len, All};
 ghost use Rattle.jzon_base.specs.Decimal.{signed};
 ghost use Rattle.jzon_base.specs.Digits.{IsDigit, add_digit, digits_number, kept, dropped, kept_fraction, clamp};
 ghost use Rattle.jzon_base.specs.DigitLimits.{IsFirstTooMany, KeepsLongestPrefix};
-ghost use Rattle.jzon_base.specs.LostDigits.{HoldsOfNone, IsFirst, loses_last, is_out_of_range, number_digits, mantissa_and_exponent, IsReadableNumber, IsFirstFault};
+ghost use Rattle.jzon_base.specs.LostDigits.{HoldsOfNone, IsFirst, loses_last, is_out_of_range, number_digits, mantissa_and_exponent, IsReadableNumber, IsFirstNumberFault};
 ghost use Rattle.jzon_base.specs.Tokens.{zero_digit};
 
 mod eight_at_once;
@@ -109,7 +109,7 @@ pub fn read_digits(
         (IsReadableNumber exact (number_digits whole.now fraction.now positive_exponent exponent.now))
         (mantissa_and_exponent (number_digits whole.now fraction.now positive_exponent exponent.now)) }
     ensures fault { IfErr result
-        (IsFirstFault exact (number_digits whole.now fraction.now positive_exponent exponent.now)) }
+        (IsFirstNumberFault exact (number_digits whole.now fraction.now positive_exponent exponent.now)) }
 {
     let (number, dropped, kept_fraction) = kept_prefix(whole, fraction);
     let too_many = first_too_many(whole.len(), dropped, kept_fraction);

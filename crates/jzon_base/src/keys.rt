@@ -7,7 +7,7 @@ ghost use Rattle.std.specs.Result.{result_ok};
 ghost use Rattle.std.specs.Str.{bytes_eq};
 ghost use Rattle.jzon_base.specs.PairList.{put_each};
 ghost use Rattle.jzon_base.specs.Private.Runs.{all_entries, IsIndexed, IsSpotFor, IsTable};
-ghost use Rattle.jzon_base.specs.Private.Known.{Knows};
+ghost use Rattle.jzon_base.specs.Private.KnownKeys.{Knows};
 
 mod entries;
 pub(crate) mod few;

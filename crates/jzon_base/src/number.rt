@@ -2,10 +2,10 @@
 
 ghost use Rattle.std.specs.Prelude.{◌≡◌, ◌*◌, ◌^◌, ◌<◌, ◌≤◌, ◌==◌, ◌||◌, MatchOption, Some};
 ghost use Rattle.std.specs.Cmp.{partial_equiv_from_equiv};
-ghost use Rattle.jzon_base.specs.Decimal.{parts, parts_of, is_nan, is_zero, is_positive, negated, same, scaled, Decimal, StripsTo};
+ghost use Rattle.jzon_base.specs.Decimal.{parts, parts_of, is_nan, is_zero, is_positive, negated, same_decimal, scaled, Decimal, StripsTo};
 ghost use Rattle.jzon_base.specs.NumberText.{decimal_text};
-ghost use Rattle.jzon_base.specs.Private.NumberFields.{value_at, HasNoParts, number_fields};
-ghost use Rattle.jzon_base.specs.Private.Same.{same_equiv};
+ghost use Rattle.jzon_base.specs.Private.NumberFields.{decimal_of, HasNoParts, number_fields};
+ghost use Rattle.jzon_base.specs.Private.Same.{same_decimal_equiv};
 
 mod fixed_point;
 mod from_integer;
@@ -40,7 +40,7 @@ pub struct Number {
 impl Model for Number {
     ghost Value = { Decimal };
 
-    ghost view = { λ n. value_at n.category n.mantissa n.exponent };
+    ghost view = { λ n. decimal_of n.category n.mantissa n.exponent };
 
     ghost invariant = { λ n. HasNoParts n.category n.mantissa n.exponent
         × (n.narrow_gap ≡ 0) × (n.wide_gap ≡ 0) };
@@ -163,9 +163,9 @@ impl std::ops::Neg for Number {
 /// Numbers are equal if their signs and exact decimals are, whatever their parts. All zeros are
 /// equal, and NaN equals only itself.
 impl PartialEq for Number {
-    ghost eq = { same };
+    ghost eq = { same_decimal };
 
-    ghost laws = { partial_equiv_from_equiv same_equiv };
+    ghost laws = { partial_equiv_from_equiv same_decimal_equiv };
 
     #[tactic(auto, using(crate::specs::Private::Same::zero_rules))]
     fn eq(&self, other: &Number) -> bool {
@@ -187,7 +187,7 @@ impl PartialEq for Number {
 }
 
 impl Eq for Number {
-    ghost laws = { same_equiv };
+    ghost laws = { same_decimal_equiv };
 }
 
 /// The category, the exponent and the mantissa, for debugging only.

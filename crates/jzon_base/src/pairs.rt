@@ -7,7 +7,7 @@ ghost use Rattle.std.specs.Str.{bytes_eq};
 ghost use Rattle.std.specs.Option.{option_copied, option_copied_mut};
 ghost use Rattle.std.specs.Coded.{coded_ℕ, coded_list, coded×};
 ghost use Rattle.jzon_base.specs.PairList.{entries_in_box, put_each};
-ghost use Rattle.jzon_base.specs.Private.Known.{Knows};
+ghost use Rattle.jzon_base.specs.Private.KnownKeys.{Knows};
 
 mod contents;
 mod iter;

@@ -2,7 +2,7 @@
 
 ghost use Rattle.std.specs.Prelude.{OnOk, OnErr};
 ghost use Rattle.std.specs.Io.KnownBytes.{Appends};
-ghost use Rattle.jzon_base.specs.Written.{AppendsBeginning};
+ghost use Rattle.jzon_base.specs.PartialWrites.{AppendsBeginning};
 
 use std::io::{self, Write};
 

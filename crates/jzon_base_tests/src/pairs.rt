@@ -1,7 +1,7 @@
 //! Pairs, and pairs that are made of entries.
 
 ghost use Rattle.std.specs.Prelude.{OnOk};
-ghost use Rattle.jzon_base.specs.Private.Known.{Knows};
+ghost use Rattle.jzon_base.specs.Private.KnownKeys.{Knows};
 
 use crate::common::{expect, expect_eq};
 use jzon_base::key::Key;

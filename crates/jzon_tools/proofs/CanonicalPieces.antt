@@ -13,7 +13,7 @@ use Rattle.std.specs.List.Sorted.{IsStrictlySortedBy}
 use Rattle.std.specs.Cmp.Lexicographic.{slice_cmp}
 use Rattle.std.specs.Ordering.{nat_cmp}
 use Rattle.jzon.specs.PairList.{keys_of}
-use Rattle.jzon.specs.Displayed.{comma_text, member_text}
+use Rattle.jzon.specs.DisplayText.{comma_text, member_text}
 use Rattle.jzon.specs.Generator.{Adds, Just}
 use Rattle.jzon.specs.JsonValue.{JsonValue}
 use Rattle.jzon.specs.Text.{quoted, compact, compact_layout, layout_text, more_values_text, more_pairs_text}

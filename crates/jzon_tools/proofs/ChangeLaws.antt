@@ -7,7 +7,7 @@ use Rattle.std.specs.Str.{bytes_eq}
 use Rattle.jzon.specs.PairList.{find, put}
 use Rattle.jzon.specs.Value.{Value, null, boolean, text, number, array, object, list_of_values, list_of_pairs, values_of, pairs_of}
 use Rattle.jzon.proofs.ValueLaws.{values_of-list_of_values, pairs_of-list_of_pairs}
-use Rattle.jzon_tools.specs.Pointer.{index_named, unescaped, child_of, missing, found, and_then, with_child, updated, changed, ChangesAt, LacksAt}
+use Rattle.jzon_tools.specs.Pointer.{index_named, token_key, child_of, missing, found, and_then, with_child, updated, changed, ChangesAt, LacksAt}
 use Rattle.jzon_tools.specs.declared.pointer.PointerError.{PointerError}
 
 -- a value put where it stands changes nothing
@@ -46,7 +46,7 @@ with_child-same (array vs) t c h =
     ap (λ ws. array (values_of ws)) (element-same (list_of_values vs) c (index_named t) h)
     ∙ ap array (values_of-list_of_values vs)
 with_child-same (object ps) t c h =
-    ap (λ qs. object (pairs_of qs)) (member-same (list_of_pairs ps) c (unescaped t) h)
+    ap (λ qs. object (pairs_of qs)) (member-same (list_of_pairs ps) c (token_key t) h)
     ∙ ap object (pairs_of-list_of_pairs ps)
 
 -- ---- down one token

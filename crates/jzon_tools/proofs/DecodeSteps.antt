@@ -12,14 +12,14 @@ use Rattle.jzon.specs.Readers.{entries, is_object}
 use Rattle.jzon.specs.Value.{Value, null, boolean, text, number, array, object, list_of_pairs}
 use Rattle.jzon_tools.specs.Decode.{IsErrorIn, moved_to, pointer_of}
 use Rattle.jzon_tools.specs.Escaped.{escaped}
-use Rattle.jzon_tools.specs.Pointer.{and_then, child_of, found, tokens_in, tokens_of, unescaped, value_at}
+use Rattle.jzon_tools.specs.Pointer.{and_then, child_of, found, tokens_in, tokens_of, token_key, value_at}
 use Rattle.jzon_tools.specs.declared.decode.error.DecodeError.{DecodeError}
 use Rattle.jzon_tools.specs.declared.decode.error.DecodeError.TheVariants.{Text, OutOfMemory, Wrong, Missing, Unknown}
 use Rattle.jzon_tools.specs.declared.pointer.PointerError.{PointerError}
 use Rattle.jzon_tools.specs.declared.pointer.PointerError.TheVariants.{NoSlash}
 use Rattle.jzon_tools.proofs.ChangeLaws.{found-down}
 use Rattle.jzon_tools.proofs.PlaceSteps.{value-of-tokens}
-use Rattle.jzon_tools.proofs.EscapedSteps.{equals, unescaped-escaped}
+use Rattle.jzon_tools.proofs.EscapedSteps.{equals, token_key-escaped}
 use Rattle.jzon_tools.proofs.TokenSteps.{Lacks, tokens-first, tokens-only}
 
 no_entry : (w : Value) → ◌≡◌ {A = Option Value} None (Some w) → ⊥
@@ -31,7 +31,7 @@ key-child k (boolean b) w h = absurd (no_entry w h)
 key-child k (text s t) w h = absurd (no_entry w h)
 key-child k (number n) w h = absurd (no_entry w h)
 key-child k (array vs) w h = absurd (no_entry w h)
-key-child k (object ps) w h = ap (option_and_then (λ j. find j (list_of_pairs ps))) (unescaped-escaped k) ∙ h
+key-child k (object ps) w h = ap (option_and_then (λ j. find j (list_of_pairs ps))) (token_key-escaped k) ∙ h
 
 -- ---- a step
 

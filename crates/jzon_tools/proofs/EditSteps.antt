@@ -14,7 +14,7 @@ use Rattle.jzon.specs.PairList.{find, put, cut}
 use Rattle.jzon.specs.Value.{Value, ValuePairs, null, boolean, text, number, array, object, values_of, pairs_of, list_of_values, list_of_pairs}
 use Rattle.jzon.specs.View.{view, viewed, view_object}
 use Rattle.jzon.proofs.ValueLaws.{list_of_pairs-pairs_of, viewed-put, viewed-cut, find-viewed, list_of_values-values_of}
-use Rattle.jzon_tools.specs.Pointer.{index_named, unescaped, child_of, new_index, with_new, without}
+use Rattle.jzon_tools.specs.Pointer.{index_named, token_key, child_of, new_index, with_new, without}
 use Rattle.jzon_tools.proofs.PlaceSteps.{array_seen}
 
 module _ {X Y : Type 0} (f : X → Y) where
@@ -55,11 +55,11 @@ put_by ps new (Some k) =
     ap (λ qs. Some (object (pairs_of (put k (view new) qs)))) (list_of_pairs-pairs_of (viewed ps))
     ∙ ap (λ qs. Some (object (pairs_of qs))) (sym (viewed-put k new ps))
 
-pub member-new : (o : Object) (t : List ℕ) (new : JsonValue) (k : Option (List ℕ)) → unescaped t ≡ k
+pub member-new : (o : Object) (t : List ℕ) (new : JsonValue) (k : Option (List ℕ)) → token_key t ≡ k
     → with_new (view new) (view_object o) t
     ≡ option_map (λ j. object (pairs_of (viewed (put j new (entries_of o))))) k
 member-new o t new k named =
-    put_by (entries_of o) new (unescaped t)
+    put_by (entries_of o) new (token_key t)
     ∙ ap (option_map (λ j. object (pairs_of (viewed (put j new (entries_of o)))))) named
 
 -- ---- removal
@@ -105,11 +105,11 @@ cut_result ps qs r (Some k) there left =
     ∙ ap (option_map (λ (c : JsonValue). object (pairs_of (viewed qs)))) there
 
 pub member-removed : (o : Object) (t : List ℕ) (r : Option JsonValue) (qs : List (List ℕ × JsonValue))
-    → option_and_then (λ k. find k (entries_of o)) (unescaped t) ≡ r
-    → option_map_or (λ k. cut k (entries_of o)) (unescaped t) (entries_of o) ≡ qs
+    → option_and_then (λ k. find k (entries_of o)) (token_key t) ≡ r
+    → option_map_or (λ k. cut k (entries_of o)) (token_key t) (entries_of o) ≡ qs
     → without (view_object o) t ≡ option_map (λ c. object (pairs_of (viewed qs))) r
 member-removed o t r qs there left =
-    cut_by (entries_of o) (unescaped t) ∙ cut_result (entries_of o) qs r (unescaped t) there left
+    cut_by (entries_of o) (token_key t) ∙ cut_result (entries_of o) qs r (token_key t) there left
 
 -- ---- what can't be inserted isn't there
 
@@ -134,7 +134,7 @@ no_place w vs false None h = refl
 no_place w vs false (Some i) h = past_end w vs (nat_lt (length vs) i) i refl h
 
 pub no_new-no_child : (w v : Value) (t : List ℕ) → with_new w v t ≡ None → child_of v t ≡ None
-no_new-no_child w (object ps) t h = no_key w ps (unescaped t) h
+no_new-no_child w (object ps) t h = no_key w ps (token_key t) h
 no_new-no_child w (array vs) t h = no_place w (list_of_values vs) (bytes_eq t (45 ∷ [])) (index_named t) h
 no_new-no_child w null t h = refl
 no_new-no_child w (boolean b) t h = refl

@@ -4,8 +4,7 @@ use Rattle.std.proofs.lemmas.Bool.{false≢true, and_parts}
 use Rattle.std.proofs.lemmas.Slice.Eq.{bytes_eq-Decides}
 use Rattle.std.specs.List.{AllByRecursion}
 use Rattle.std.specs.Cmp.{booleans_Decides}
-use Rattle.jzon.specs.Decimal.{Decimal}
-use Rattle.jzon.specs.Decimal as decimal
+use Rattle.jzon.specs.Decimal.{Decimal, same_decimal}
 use Rattle.jzon.specs.Lawful.{IsValue, AreValues, ArePairs, InRange}
 use Rattle.jzon.specs.Same.{same, same_items}
 use Rattle.jzon.specs.SameLaws.{same_at, object-elim, at}
@@ -19,7 +18,7 @@ use Rattle.jzon_tools.proofs.SortedEntries.{one_list, distinct, at-arranged_pair
 -- equal strings, and equal numbers, have one leaf
 pub record MakesOne (leaf : Value → Value) : Type 0 where
   pub strings : (j k : Kind) (s : List ℕ) → leaf (text j s) ≡ leaf (text k s)
-  pub numbers : (d c : Decimal) → InRange d → InRange c → decimal.same d c ≡ true → leaf (number d) ≡ leaf (number c)
+  pub numbers : (d c : Decimal) → InRange d → InRange c → same_decimal d c ≡ true → leaf (number d) ≡ leaf (number c)
 
 module _ (leaf : Value → Value) (one : MakesOne leaf) where
   abbrev pub HasForm : Value → Type 0

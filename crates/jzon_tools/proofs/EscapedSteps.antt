@@ -3,7 +3,7 @@ use Rattle.std.proofs.Common.{◌≡◌, ◌≢◌, ◌<◌, ℕ, zero, suc, Lis
 use Rattle.std.proofs.Common.{Bool, true, false, ◌==◌, if◌then◌else◌, Some, option_map}
 use Rattle.std.proofs.lemmas.Bool.Decides.{nat_tests}
 use Rattle.jzon_tools.specs.Escaped.{escaped, slashed, slash_of}
-use Rattle.jzon_tools.specs.Pointer.{tokens_of, unescaped}
+use Rattle.jzon_tools.specs.Pointer.{tokens_of, token_key}
 use Rattle.jzon_tools.proofs.TokenSteps.{Lacks, tokens-parent}
 
 pub escaped-part : (xs rest : List ℕ) → Lacks 126 xs → escaped (xs ++ rest) ≡ slashed xs ++ escaped rest
@@ -67,22 +67,22 @@ lacks-escaped [] = λ i less. absurd (omega arith)
 lacks-escaped (c ∷ cs) = lacks_by (c == 126) (c == 47) c (escaped cs) (differs c 47) (lacks-escaped cs)
 
 unescaped_by : (t s : Bool) (c : ℕ) (cs es : List ℕ) → (t ≡ true → c ≡ 126) → (s ≡ true → c ≡ 47)
-    → (t ≡ false → (c == 126) ≡ false) → unescaped es ≡ Some cs
-    → unescaped ((if t then 126 ∷ 48 ∷ [] else (if s then 126 ∷ 49 ∷ [] else c ∷ [])) ++ es) ≡ Some (c ∷ cs)
+    → (t ≡ false → (c == 126) ≡ false) → token_key es ≡ Some cs
+    → token_key ((if t then 126 ∷ 48 ∷ [] else (if s then 126 ∷ 49 ∷ [] else c ∷ [])) ++ es) ≡ Some (c ∷ cs)
 unescaped_by true s c cs es tilde slash other h =
     ap (option_map (λ k. 126 ∷ k)) h ∙ ap (λ (d : ℕ). Some (d ∷ cs)) (sym (tilde refl))
 unescaped_by false true c cs es tilde slash other h =
     ap (option_map (λ k. 47 ∷ k)) h ∙ ap (λ (d : ℕ). Some (d ∷ cs)) (sym (slash refl))
 unescaped_by false false c cs es tilde slash other h = rw (other refl) (ap (option_map (λ k. c ∷ k)) h)
 
-pub unescaped-escaped : (k : List ℕ) → unescaped (escaped k) ≡ Some k
-unescaped-escaped [] = refl
-unescaped-escaped (c ∷ cs) =
-    unescaped_by (c == 126) (c == 47) c cs (escaped cs) (equals c 126) (equals c 47) (λ h. h) (unescaped-escaped cs)
+pub token_key-escaped : (k : List ℕ) → token_key (escaped k) ≡ Some k
+token_key-escaped [] = refl
+token_key-escaped (c ∷ cs) =
+    unescaped_by (c == 126) (c == 47) c cs (escaped cs) (equals c 126) (equals c 47) (λ h. h) (token_key-escaped cs)
 
 -- a pointer with the token of a key after its last
 pub pushed-tokens : (old new k : List ℕ) (ts : List (List ℕ)) → new ≡ old ++ 47 ∷ escaped k → tokens_of old ≡ Some ts
     → tokens_of new ≡ Some (ts ++ escaped k ∷ [])
 pushed-tokens old new k ts is h = ap tokens_of is ∙ tokens-parent old (escaped k) ts (lacks-escaped k) h
 
-pub ruleset pushing = (unescaped-escaped, pushed-tokens)
+pub ruleset pushing = (token_key-escaped, pushed-tokens)

@@ -7,7 +7,7 @@ use Rattle.std.specs.List.{position, position_or_len, remove}
 use Rattle.std.specs.Option.{option_map_or}
 use Rattle.std.specs.Str.{bytes_eq}
 use Rattle.jzon.specs.PairList.{keys_of, find, put, cut, set_value}
-use Rattle.jzon_tools.specs.Pointer.{unescaped, names}
+use Rattle.jzon_tools.specs.Pointer.{token_key, names}
 
 module _ {V : Type 0} where
   -- the value at the position, if it is within the length
@@ -55,9 +55,9 @@ module _ {V : Type 0} where
   first_by (Some u) ps = find-first u ps
 
   -- the value that a token names is at the first position whose key it names
-  pub named-entry : (t : List ℕ) (ps : List (List ℕ × V)) → option_and_then (λ k. find k ps) (unescaped t)
+  pub named-entry : (t : List ℕ) (ps : List (List ℕ × V)) → option_and_then (λ k. find k ps) (token_key t)
       ≡ option_map (λ p. p.1) (option_and_then (λ j. slice_get ps j) (position (names t) (keys_of ps)))
-  named-entry t ps = first_by (unescaped t) ps
+  named-entry t ps = first_by (token_key t) ps
 
   -- ---- what is written there
 
@@ -80,8 +80,8 @@ module _ {V : Type 0} where
 
   -- a value that is put under the key that a token names stands at its position
   pub named-written : (t : List ℕ) (ps : List (List ℕ × V)) (i : ℕ) (w : V) → position (names t) (keys_of ps) ≡ Some i
-      → option_map_or (λ k. put k w ps) (unescaped t) ps ≡ set_value ps i w
-  named-written t ps i w e = written-at_by (unescaped t) ps i w e
+      → option_map_or (λ k. put k w ps) (token_key t) ps ≡ set_value ps i w
+  named-written t ps i w e = written-at_by (token_key t) ps i w e
 
   -- ---- what is left without it
 
@@ -104,8 +104,8 @@ module _ {V : Type 0} where
 
   -- without the entry at the position whose key a token names, there are those without its key
   pub named-cut : (t : List ℕ) (ps : List (List ℕ × V)) (i : ℕ) → position (names t) (keys_of ps) ≡ Some i
-      → option_map_or (λ k. cut k ps) (unescaped t) ps ≡ remove ps i
-  named-cut t ps i e = cut-at_by (unescaped t) ps i e
+      → option_map_or (λ k. cut k ps) (token_key t) ps ≡ remove ps i
+  named-cut t ps i e = cut-at_by (token_key t) ps i e
 
   -- nothing is removed past the end
   pub remove-past : (ps : List (List ℕ × V)) (i : ℕ) → None ≡ slice_get ps i → remove ps i ≡ ps
@@ -115,6 +115,6 @@ module _ {V : Type 0} where
   remove-past (p ∷ ps) (suc i) h = ap (λ qs. p ∷ qs) (remove-past ps i h)
 
 -- the position of a key is that of a token that is this key
-pub position-plain : (t : List ℕ) (ks : List (List ℕ)) → unescaped t ≡ Some t
+pub position-plain : (t : List ℕ) (ks : List (List ℕ)) → token_key t ≡ Some t
     → position (λ k. bytes_eq k t) ks ≡ position (names t) ks
 position-plain t ks plain = sym (ap (λ o. position (λ k. option_map_or (bytes_eq k) o false) ks) plain)

@@ -8,8 +8,7 @@ use Rattle.std.proofs.Math.Dec.{lit≤}
 use Rattle.std.proofs.lemmas.Nat.{pow-add}
 use Rattle.std.specs.Bool.{beq}
 use Rattle.std.specs.Cmp.{booleans_Decides}
-use Rattle.jzon.specs.Decimal.{Decimal, nan, parts, shifted, scaled}
-use Rattle.jzon.specs.Decimal as decimal
+use Rattle.jzon.specs.Decimal.{Decimal, nan, parts, shifted, scaled, same_decimal}
 use Rattle.jzon.specs.Lawful.{InRange}
 
 -- a zero is +0, and no other mantissa ends in a zero unless the exponent is the largest
@@ -130,7 +129,7 @@ by_case p q m n e f rd rc nd nc (inr h) =
     same_scaled p q m n e f rd rc nd nc ((booleans_Decides p q).0 sp) (eqb-true _ _ sc) (zero_or_some m)
     (zero_or_some n)
 
-pub one_number : (d c : Decimal) → InRange d → InRange c → IsNormal d → IsNormal c → IsTrue (decimal.same d c) → d ≡ c
+pub one_number : (d c : Decimal) → InRange d → InRange c → IsNormal d → IsNormal c → IsTrue (same_decimal d c) → d ≡ c
 one_number nan nan rd rc nd nc h = refl
 one_number nan (parts q n f) rd rc nd nc h = absurd (false≢true h)
 one_number (parts p m e) nan rd rc nd nc h = absurd (false≢true h)

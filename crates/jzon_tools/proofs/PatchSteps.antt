@@ -9,7 +9,7 @@ use Rattle.std.specs.List.{remove}
 use Rattle.jzon.specs.Value.{Value, null, boolean, text, number, array, object, values_of, pairs_of, list_of_values, list_of_pairs}
 use Rattle.jzon.specs.View.{view, view_values}
 use Rattle.jzon_tools.specs.Patch.{operated, applied_each}
-use Rattle.jzon_tools.specs.Pointer.{index_named, unescaped, child_of, with_child, missing, tokens_of, found, and_then, value_at, entry_at, updated, updated_at, changed, without, removed_at}
+use Rattle.jzon_tools.specs.Pointer.{index_named, token_key, child_of, with_child, missing, tokens_of, found, and_then, value_at, entry_at, updated, updated_at, changed, without, removed_at}
 use Rattle.jzon_tools.specs.declared.pointer.PointerError.{PointerError}
 use Rattle.jzon_tools.specs.declared.pointer.PointerError.TheVariants.{NoSlash}
 
@@ -52,7 +52,7 @@ without-none (array vs) t h =
     mapped-none (λ i. slice_get (list_of_values vs) i) (λ i c. array (values_of (remove (list_of_values vs) i)))
     (index_named t) h
 without-none (object ps) t h =
-    mapped-none (λ k. find k (list_of_pairs ps)) (λ k c. object (pairs_of (cut k (list_of_pairs ps)))) (unescaped t) h
+    mapped-none (λ k. find k (list_of_pairs ps)) (λ k c. object (pairs_of (cut k (list_of_pairs ps)))) (token_key t) h
 
 no_child_by : (o : Option Value) (x e : PointerError) → and_then (λ c. Ok c) (ok_or o x) ≡ Err e → o ≡ None
 no_child_by None x e h = refl

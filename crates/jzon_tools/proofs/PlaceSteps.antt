@@ -15,7 +15,7 @@ use Rattle.jzon.proofs.ValueLaws.{view-Object, view-Array, entries-Object, list_
 use Rattle.jzon.proofs.ValueLaws.{find-viewed, find-view_object, list_of_values-values_of}
 use Rattle.jzon_tools.proofs.ChangeLaws.{found-below, found-none}
 use Rattle.jzon_tools.proofs.NameSteps.{named-entry, named-written}
-use Rattle.jzon_tools.specs.Pointer.{index_named, child_of, with_child, unescaped, names, tokens_in, tokens_left, tokens_of, value_at, missing, found, and_then}
+use Rattle.jzon_tools.specs.Pointer.{index_named, child_of, with_child, token_key, names, tokens_in, tokens_left, tokens_of, value_at, missing, found, and_then}
 use Rattle.jzon_tools.specs.declared.pointer.PointerError.TheVariants.{NoSlash}
 
 -- the array of these elements
@@ -66,8 +66,8 @@ member_by ps None = refl
 member_by ps (Some k) = ap (find k) (list_of_pairs-pairs_of (viewed ps)) ∙ sym (find-viewed k ps)
 
 pub member-child : (o : Object) (t : List ℕ)
-    → child_of (view_object o) t ≡ option_map view (option_and_then (λ k. find k (entries_of o)) (unescaped t))
-member-child o t = member_by (entries_of o) (unescaped t)
+    → child_of (view_object o) t ≡ option_map view (option_and_then (λ k. find k (entries_of o)) (token_key t))
+member-child o t = member_by (entries_of o) (token_key t)
 
 -- the member that a token names, by its position
 pub member-at : (o : Object) (t : List ℕ) (i : Option ℕ) → position (names t) (keys_of (entries_of o)) ≡ i
@@ -86,10 +86,10 @@ written_by ps (Some k) new =
     ap (put k (view new)) (list_of_pairs-pairs_of (viewed ps)) ∙ sym (viewed-put k new ps)
 
 member-written : (o : Object) (t : List ℕ) (new : JsonValue) (qs : List (List ℕ × JsonValue))
-    → option_map_or (λ k. put k new (entries_of o)) (unescaped t) (entries_of o) ≡ qs
+    → option_map_or (λ k. put k new (entries_of o)) (token_key t) (entries_of o) ≡ qs
     → with_child (view_object o) t (view new) ≡ object (pairs_of (viewed qs))
 member-written o t new qs is =
-    ap (λ ps. object (pairs_of ps)) (written_by (entries_of o) (unescaped t) new)
+    ap (λ ps. object (pairs_of ps)) (written_by (entries_of o) (token_key t) new)
     ∙ ap (λ ps. object (pairs_of (viewed ps))) is
 
 pub placed-written : (o : Object) (t : List ℕ) (i : ℕ) (new : JsonValue)

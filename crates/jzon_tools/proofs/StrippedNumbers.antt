@@ -13,8 +13,7 @@ use Rattle.jzon.specs.Value.{number}
 use Rattle.jzon.specs.SameLaws.{same_equiv}
 use Rattle.std.specs.Ordering.{int_eq}
 use Rattle.std.specs.Cmp.{booleans_Decides}
-use Rattle.jzon.specs.Decimal.{Decimal, nan, parts, shifted, scaled, is_nan, parts_of}
-use Rattle.jzon.specs.Decimal as decimal
+use Rattle.jzon.specs.Decimal.{Decimal, nan, parts, shifted, scaled, is_nan, parts_of, same_decimal}
 use Rattle.jzon.specs.Lawful.{InRange}
 use Rattle.jzon_tools.specs.Canonical.{stripped, normal_number}
 use Rattle.jzon_tools.proofs.NormalNumbers.{IsNormal, one_number}
@@ -126,7 +125,7 @@ strip (suc n) m e some small fits =
 pub record IsFormOf (d c : Decimal) : Type 0 where
   pub in_range : InRange c
   pub normal : IsNormal c
-  pub equal : decimal.same c d ≡ true
+  pub equal : same_decimal c d ≡ true
 
 or_right : (b c : Bool) → c ≡ true → (b || c) ≡ true
 or_right true c h = refl
@@ -154,12 +153,12 @@ pub form_of : (d : Decimal) → InRange d → IsFormOf d (normal_number d)
 form_of nan range = record { in_range = tt; normal = tt; equal = refl }
 form_of (parts p m e) range = form_of_parts p m e range (m == 0) refl
 
-pub one_number_form : (d c : Decimal) → InRange d → InRange c → IsTrue (decimal.same d c)
+pub one_number_form : (d c : Decimal) → InRange d → InRange c → IsTrue (same_decimal d c)
     → normal_number d ≡ normal_number c
 one_number_form d c rd rc h =
     let x = form_of d rd in
     let y = form_of c rc in
-    let back : decimal.same c (normal_number c) ≡ true =
+    let back : same_decimal c (normal_number c) ≡ true =
     same_equiv.symm (number c) (number (normal_number c)) ∙ y.equal in
     one_number (normal_number d) (normal_number c) x.in_range y.in_range x.normal y.normal
     (same_equiv.congr (number (normal_number d)) (number d) (number (normal_number c)) x.equal

@@ -6,7 +6,7 @@ use Rattle.std.proofs.lemmas.List.{take-append-drop}
 use Rattle.std.proofs.lemmas.Str.Pattern.{NoCharPasses-char, drop_at_char}
 use Rattle.std.specs.Option.{MatchOption}
 use Rattle.std.specs.Str.Pattern.{RFindsChar, SplitsAroundMatch}
-use Rattle.jzon_tools.specs.Pointer.{tokens_after, tokens_in, tokens_of, unescaped, after_tilde}
+use Rattle.jzon_tools.specs.Pointer.{tokens_after, tokens_in, tokens_of, token_key, after_tilde}
 
 -- no byte of it is this one
 abbrev pub Lacks : ℕ → List ℕ → Type 0
@@ -58,11 +58,11 @@ no_slash (x ∷ xs) some h = rw (ne_eqb x 47 (λ e. h xs (ap (λ y. y ∷ xs) e)
 
 -- ---- escapes
 
-pub unescaped-plain : (xs : List ℕ) → Lacks 126 xs → unescaped xs ≡ Some xs
-unescaped-plain [] h = refl
-unescaped-plain (x ∷ xs) h =
+pub token_key-plain : (xs : List ℕ) → Lacks 126 xs → token_key xs ≡ Some xs
+token_key-plain [] h = refl
+token_key-plain (x ∷ xs) h =
     rw (ne_eqb x 126 (h 0 (omega arith)))
-    (ap (option_map (λ k. x ∷ k)) (unescaped-plain xs (λ i less. h (suc i) (omega arith))))
+    (ap (option_map (λ k. x ∷ k)) (token_key-plain xs (λ i less. h (suc i) (omega arith))))
 
 none_before : (o : Option (List ℕ)) → o ≡ option_map (λ k. [] ++ k) o
 none_before None = refl
@@ -73,13 +73,13 @@ one_before : (x : ℕ) (xs : List ℕ) (o : Option (List ℕ))
 one_before x xs None = refl
 one_before x xs (Some k) = refl
 
-pub unescaped-part : (xs rest : List ℕ) → Lacks 126 xs
-    → unescaped (xs ++ rest) ≡ option_map (λ k. xs ++ k) (unescaped rest)
-unescaped-part [] rest h = none_before (unescaped rest)
-unescaped-part (x ∷ xs) rest h =
+pub token_key-part : (xs rest : List ℕ) → Lacks 126 xs
+    → token_key (xs ++ rest) ≡ option_map (λ k. xs ++ k) (token_key rest)
+token_key-part [] rest h = none_before (token_key rest)
+token_key-part (x ∷ xs) rest h =
     rw (ne_eqb x 126 (h 0 (omega arith)))
-    (ap (option_map (λ k. x ∷ k)) (unescaped-part xs rest (λ i less. h (suc i) (omega arith)))
-    ∙ one_before x xs (unescaped rest))
+    (ap (option_map (λ k. x ∷ k)) (token_key-part xs rest (λ i less. h (suc i) (omega arith)))
+    ∙ one_before x xs (token_key rest))
 
 -- a key so far, then bytes without `~`, then the byte of an escape
 pub escape-after : (a b : List ℕ) (c : ℕ) (o : Option (List ℕ))
@@ -96,23 +96,23 @@ bad-escape (x ∷ xs) h i =
 
 -- a key so far, once bytes without `~` and an escape are read
 pub escape-read : (t key rest plain after more made : List ℕ) (c : ℕ)
-    → unescaped t ≡ option_map (λ k. key ++ k) (unescaped rest) → rest ≡ plain ++ 126 ∷ after → Lacks 126 plain
-    → after_tilde after ≡ option_map (λ k. c ∷ k) (unescaped more) → made ≡ (key ++ plain) ++ c ∷ []
-    → unescaped t ≡ option_map (λ k. made ++ k) (unescaped more)
+    → token_key t ≡ option_map (λ k. key ++ k) (token_key rest) → rest ≡ plain ++ 126 ∷ after → Lacks 126 plain
+    → after_tilde after ≡ option_map (λ k. c ∷ k) (token_key more) → made ≡ (key ++ plain) ++ c ∷ []
+    → token_key t ≡ option_map (λ k. made ++ k) (token_key more)
 escape-read t key rest plain after more made c so_far cut lacks escape is =
-    so_far ∙ ap (λ cs. option_map (λ k. key ++ k) (unescaped cs)) cut
+    so_far ∙ ap (λ cs. option_map (λ k. key ++ k) (token_key cs)) cut
     ∙ ap (option_map (λ k. key ++ k))
-    (unescaped-part plain (126 ∷ after) lacks ∙ ap (option_map (λ k. plain ++ k)) escape)
-    ∙ escape-after key plain c (unescaped more)
-    ∙ ap (λ l. option_map (λ k. l ++ k) (unescaped more)) (sym is)
+    (token_key-part plain (126 ∷ after) lacks ∙ ap (option_map (λ k. plain ++ k)) escape)
+    ∙ escape-after key plain c (token_key more)
+    ∙ ap (λ l. option_map (λ k. l ++ k) (token_key more)) (sym is)
 
 pub escape-refused : (t key rest plain after : List ℕ)
-    → unescaped t ≡ option_map (λ k. key ++ k) (unescaped rest) → rest ≡ plain ++ 126 ∷ after → Lacks 126 plain
-    → after_tilde after ≡ None → unescaped t ≡ None
+    → token_key t ≡ option_map (λ k. key ++ k) (token_key rest) → rest ≡ plain ++ 126 ∷ after → Lacks 126 plain
+    → after_tilde after ≡ None → token_key t ≡ None
 escape-refused t key rest plain after so_far cut lacks none =
-    so_far ∙ ap (λ cs. option_map (λ k. key ++ k) (unescaped cs)) cut
+    so_far ∙ ap (λ cs. option_map (λ k. key ++ k) (token_key cs)) cut
     ∙ ap (option_map (λ k. key ++ k))
-    (unescaped-part plain (126 ∷ after) lacks ∙ ap (option_map (λ k. plain ++ k)) none)
+    (token_key-part plain (126 ∷ after) lacks ∙ ap (option_map (λ k. plain ++ k)) none)
 
 -- ---- the last slash
 

@@ -33,16 +33,16 @@ tokens_of (c ∷ cs) = if c == 47 then Some (tokens_in cs) else None
 
 -- the key that a token means: `~0` is `~`, and `~1` is `/`; none if another `~` is in it
 abbrev mutual
-  pub unescaped : List ℕ → Option (List ℕ)
-  unescaped [] = Some []
-  unescaped (c ∷ cs) = if c == 126 then after_tilde cs else option_map (λ k. c ∷ k) (unescaped cs)
+  pub token_key : List ℕ → Option (List ℕ)
+  token_key [] = Some []
+  token_key (c ∷ cs) = if c == 126 then after_tilde cs else option_map (λ k. c ∷ k) (token_key cs)
 
   -- the same, of what follows a `~`
   pub after_tilde : List ℕ → Option (List ℕ)
   after_tilde [] = None
   after_tilde (c ∷ cs) =
-      if c == 48 then option_map (λ k. 126 ∷ k) (unescaped cs)
-      else (if c == 49 then option_map (λ k. 47 ∷ k) (unescaped cs) else None)
+      if c == 48 then option_map (λ k. 126 ∷ k) (token_key cs)
+      else (if c == 49 then option_map (λ k. 47 ∷ k) (token_key cs) else None)
 
 -- ---- what it leads to (section 4)
 
@@ -56,7 +56,7 @@ index_named t = if is_index t && nat_lt (digits_value 10 t) (2 ^ 64) then Some (
 
 -- the entry's value or the element that a token names
 abbrev pub child_of : Value → List ℕ → Option Value
-child_of (object ps) t = option_and_then (λ k. find k (list_of_pairs ps)) (unescaped t)
+child_of (object ps) t = option_and_then (λ k. find k (list_of_pairs ps)) (token_key t)
 child_of (array vs) t = option_and_then (λ i. slice_get (list_of_values vs) i) (index_named t)
 child_of _ t = None
 
@@ -71,7 +71,7 @@ reason_in (text k s) t = NoChildren String
 
 -- why a token names nothing, and first that a `~` in it means nothing
 abbrev pub reason_of : Value → List ℕ → Reason
-reason_of v t = if is_some (unescaped t) then reason_in v t else BadEscape
+reason_of v t = if is_some (token_key t) then reason_in v t else BadEscape
 
 -- f of a result, or its error
 abbrev pub and_then : {A B E : Type 0} → (A → Result B E) → Result A E → Result B E
@@ -99,13 +99,13 @@ entry_at v (c ∷ cs) = value_at v (c ∷ cs)
 
 -- whether a token names a key
 abbrev pub names : List ℕ → List ℕ → Bool
-names t k = option_map_or (bytes_eq k) (unescaped t) false
+names t k = option_map_or (bytes_eq k) (token_key t) false
 
 -- ---- what changes there
 
 -- w in the place of the child that a token names
 abbrev pub with_child : Value → List ℕ → Value → Value
-with_child (object ps) t w = object (pairs_of (option_map_or (λ k. put k w (list_of_pairs ps)) (unescaped t) (list_of_pairs ps)))
+with_child (object ps) t w = object (pairs_of (option_map_or (λ k. put k w (list_of_pairs ps)) (token_key t) (list_of_pairs ps)))
 with_child (array vs) t w = array (values_of (option_map_or (λ i. slice_set (list_of_values vs) i w) (index_named t) (list_of_values vs)))
 with_child v t w = v
 
@@ -130,7 +130,7 @@ new_index t n = if bytes_eq t (45 ∷ []) then Some n else option_and_then (λ i
 
 -- with w as a new child that a token names; a key that is there gets it as its value
 abbrev pub with_new : Value → Value → List ℕ → Option Value
-with_new w (object ps) t = option_map (λ k. object (pairs_of (put k w (list_of_pairs ps)))) (unescaped t)
+with_new w (object ps) t = option_map (λ k. object (pairs_of (put k w (list_of_pairs ps)))) (token_key t)
 with_new w (array vs) t =
     option_map (λ i. array (values_of (insert (list_of_values vs) i w))) (new_index t (length (list_of_values vs)))
 with_new w v t = None
@@ -141,7 +141,7 @@ inserted_at w v path = option_and_then (changed (with_new w) v) (tokens_of path)
 
 -- without the child that a token names
 abbrev pub without : Value → List ℕ → Option Value
-without (object ps) t = option_and_then (λ k. option_map (λ c. object (pairs_of (cut k (list_of_pairs ps)))) (find k (list_of_pairs ps))) (unescaped t)
+without (object ps) t = option_and_then (λ k. option_map (λ c. object (pairs_of (cut k (list_of_pairs ps)))) (find k (list_of_pairs ps))) (token_key t)
 without (array vs) t = option_and_then (λ i. option_map (λ c. array (values_of (remove (list_of_values vs) i))) (slice_get (list_of_values vs) i)) (index_named t)
 without v t = None
 

@@ -14,7 +14,7 @@ ghost use Rattle.std.specs.IoError.{error_kind};
 ghost use Rattle.std.specs.Ordering.{nat_cmp};
 ghost use Rattle.std.specs.Slice.Iter.{iter_rest};
 ghost use Rattle.jzon.specs.Answer.{IsErrorUnlessMemory};
-ghost use Rattle.jzon.specs.Displayed.{comma_text};
+ghost use Rattle.jzon.specs.DisplayText.{comma_text};
 ghost use Rattle.jzon.specs.Entries.{entries_of};
 ghost use Rattle.jzon.specs.Generator.{Adds, Just};
 ghost use Rattle.jzon.specs.Lawful.{HasNoNan};

@@ -10,7 +10,7 @@ ghost use Rattle.std.specs.Result.{result_ok};
 ghost use Rattle.jzon.specs.View.{view};
 ghost use Rattle.jzon_tools.specs.ErrorTexts.{before, behind, explained, parent_text, pointed_text, pointer_error_kind, pointer_error_text, primitive_text, reason_text, token_text};
 ghost use Rattle.jzon_tools.specs.Escaped.{escaped};
-ghost use Rattle.jzon_tools.specs.Pointer.{child_of, reason_of, tokens_left, tokens_of, unescaped, value_at};
+ghost use Rattle.jzon_tools.specs.Pointer.{child_of, reason_of, tokens_left, tokens_of, token_key, value_at};
 ghost use Rattle.jzon_tools.specs.declared.pointer.PointerError.TheVariants.{NoSlash};
 
 mod edit;
@@ -291,7 +291,7 @@ pub fn push_token(pointer: &mut String, key: &str) -> Result<(), AllocError>
         ≡ string_bytes pointer.old ++ 47 ∷ escaped key.now) }
     ensures tokens { (ts : List (List ℕ)) → tokens_of (string_bytes pointer.old) ≡ Some ts
         → OnOk result (tokens_of (string_bytes pointer.new) ≡ Some (ts ++ escaped key.now ∷ [])) }
-    ensures key { unescaped (escaped key.now) ≡ Some key.now }
+    ensures key { token_key (escaped key.now) ≡ Some key.now }
     ensures err { OnErr result (string_bytes pointer.new ≡ string_bytes pointer.old) }
 {
     let mut token = String::new(*pointer.allocator());

@@ -11,7 +11,7 @@ ghost use Rattle.jzon.specs.Entries.{entries_of};
 ghost use Rattle.jzon.specs.PairList.{find, keys_of};
 ghost use Rattle.jzon.specs.View.{view, view_object};
 ghost use Rattle.jzon_tools.specs.Escaped.{escaped, slashed};
-ghost use Rattle.jzon_tools.specs.Pointer.{is_index, index_named, names, tokens_in, tokens_left, unescaped, with_new};
+ghost use Rattle.jzon_tools.specs.Pointer.{is_index, index_named, names, tokens_in, tokens_left, token_key, with_new};
 
 use jzon::JsonValue;
 use jzon::object::Object;
@@ -62,7 +62,7 @@ fn has_leading_zero(token: &[u8]) -> bool
 /// The value of the entry that a token names.
 pub fn member<'a>(object: &'a Object, token: &str) -> Option<&'a JsonValue>
     ensures { option_copied result
-        ≡ option_and_then (λ k. find k (entries_of object.now)) (unescaped token.now) }
+        ≡ option_and_then (λ k. find k (entries_of object.now)) (token_key token.now) }
 {
     let (_key, value) = object.get_index(position_of(object, token)?)?;
     Some(value)
@@ -80,7 +80,7 @@ pub fn position_of(object: &Object, token: &str) -> Option<usize>
 
 /// Whether a token is the key itself, since it has no `~`.
 fn is_plain(token: &str) -> bool
-    ensures { result ≡ true → unescaped token.now ≡ Some token.now }
+    ensures { result ≡ true → token_key token.now ≡ Some token.now }
 {
     !token.contains('~')
 }
@@ -108,7 +108,7 @@ fn is_name(token: &str, key: &str) -> bool
 
 /// Whether each `~` of a token is followed by `0` or `1`.
 pub fn is_well_escaped(token: &str) -> bool
-    ensures { result ≡ is_some (unescaped token.now) }
+    ensures { result ≡ is_some (token_key token.now) }
 {
     let token = token.as_bytes();
     let mut at = 0;
@@ -124,9 +124,9 @@ pub fn is_well_escaped(token: &str) -> bool
 /// The byte that stands at a position of a token, by itself or by an escape, and the next position.
 fn unescaped_at(token: &[u8], at: usize) -> Option<(u8, usize)>
     requires { at < length token.now }
-    ensures bad { result ≡ None → unescaped (drop at token.now) ≡ None }
-    ensures good { IfSome result (λ r. unescaped (drop at token.now)
-        ≡ option_map (λ bs. r.0 ∷ bs) (unescaped (drop r.1 token.now))) }
+    ensures bad { result ≡ None → token_key (drop at token.now) ≡ None }
+    ensures good { IfSome result (λ r. token_key (drop at token.now)
+        ≡ option_map (λ bs. r.0 ∷ bs) (token_key (drop r.1 token.now))) }
     ensures next { IfSome result (λ r. (at < r.1) × (r.1 ≤ length token.now)) }
 {
     if token[at] != b'~' {
@@ -144,7 +144,7 @@ fn unescaped_at(token: &[u8], at: usize) -> Option<(u8, usize)>
 
 /// The key that a token names, or `None` for a bad escape.
 pub fn key_of(alloc: Global, token: &str) -> Result<Option<String>, AllocError>
-    ensures { IfOk result (λ key. option_map string_bytes key ≡ unescaped token.now) }
+    ensures { IfOk result (λ key. option_map string_bytes key ≡ token_key token.now) }
 {
     let mut key = String::new(alloc);
     let mut rest = token;

@@ -80,8 +80,8 @@ abbrev pub IsForm : Style → List ℕ → ℕ → List ℕ → Type 0
 IsForm s slice min b = ((b ≡ slice) × IsTrue (s.colon true)) ⊎ ((b ≡ min ∷ []) × IsTrue (s.colon false))
 
 -- a key in quotes, and a colon as the style allows
-abbrev pub IsKey : Style → List ℕ → List ℕ → Type 0
-IsKey s key b = (wide : Bool) × IsTrue (s.colon wide) × (b ≡ quoted key ++ colon_text wide)
+abbrev pub IsPrintedKey : Style → List ℕ → List ℕ → Type 0
+IsPrintedKey s key b = (wide : Bool) × IsTrue (s.colon wide) × (b ≡ quoted key ++ colon_text wide)
 
 -- the positions 0 to n - 1
 abbrev pub insertion : ℕ → List ℕ

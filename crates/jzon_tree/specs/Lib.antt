@@ -3,7 +3,7 @@ pub mod Value
 pub mod Same
 pub mod SameLaws
 pub mod Text
-pub mod Displayed
+pub mod DisplayText
 pub mod Writing
 pub mod Generator
 pub mod Styles

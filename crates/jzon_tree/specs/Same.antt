@@ -3,7 +3,7 @@
 use Rattle.std.specs.Prelude.{ℕ, Bool, true, false, ◌&&◌, ◌||◌, List, [], ◌∷◌, Option, None, Some, is_some}
 use Rattle.std.specs.Bool.{beq}
 use Rattle.std.specs.Str.{bytes_eq}
-use Rattle.jzon_base.specs.Decimal as decimal
+use Rattle.jzon_base.specs.Decimal.{same_decimal}
 use Rattle.jzon_base.specs.PairList.{find}
 use Rattle.jzon_tree.specs.Value.{Value, null, boolean, text, number, array, object, Values, no_values, value, ValuePairs}
 use Rattle.jzon_tree.specs.Value.{no_pairs, pair, list_of_pairs}
@@ -29,7 +29,7 @@ abbrev mutual
   same null null = true
   same (boolean b) (boolean c) = beq b c
   same (text j s) (text k t) = bytes_eq s t
-  same (number m) (number n) = decimal.same m n
+  same (number m) (number n) = same_decimal m n
   same (array vs) (array ws) = same_items vs ws
   same (object ps) (object qs) = same_under [] ps qs && has_keys_within qs ps
   same _ _ = false

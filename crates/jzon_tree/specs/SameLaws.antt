@@ -7,7 +7,7 @@ use Rattle.std.proofs.lemmas.Bool.{false≢true, and_parts, and_from, or_parts}
 use Rattle.std.proofs.lemmas.Option.{none-some, same_Some}
 use Rattle.std.proofs.lemmas.Slice.Eq.{bytes_eq-Decides}
 use Rattle.jzon_base.specs.PairList.{find}
-use Rattle.jzon_base.specs.Private.Same.{same_equiv as decimal_equiv}
+use Rattle.jzon_base.specs.Private.Same.{same_decimal_equiv as decimal_equiv}
 use Rattle.jzon_tree.specs.Value.{Value, null, boolean, text, number, array, object, Values, no_values, value, ValuePairs}
 use Rattle.jzon_tree.specs.Value.{no_pairs, pair, list_of_pairs}
 use Rattle.jzon_tree.specs.Same.{same, same_items, same_under, has_keys_within, is_known, passes}

@@ -1,3 +1,3 @@
-pub mod Added
+pub mod AddedBytes
 pub mod CountsOfSpaces
 pub mod RejectedInputs

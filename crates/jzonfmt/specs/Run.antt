@@ -3,7 +3,7 @@ use Rattle.std.specs.Prelude.{ℕ, List, [], ◌∷◌, ◌++◌, Result, Ok, Er
 use Rattle.std.specs.Io.KnownBytes.{Appends, Keeps, Consumes, IsAtEnd}
 use Rattle.jzon.specs.Error.{Error}
 use Rattle.jzon.specs.Error.TheVariants.{OutOfMemory}
-use Rattle.jzon.specs.Written.{AppendsBeginning}
+use Rattle.jzon.specs.PartialWrites.{AppendsBeginning}
 use Rattle.jzon.specs.Text.{compact, pretty}
 use Rattle.jzon.specs.Value.{Value}
 use Rattle.jzon.specs.Reading.{Reading}
@@ -46,12 +46,12 @@ text Compact v = compact v
 text (Pretty spaces) v = pretty v spaces 0
 
 -- the text of a value in the layout, and a newline
-abbrev pub line : Layout → Value → List ℕ
-line layout v = text layout v ++ 10 ∷ []
+abbrev pub output_line : Layout → Value → List ℕ
+output_line layout v = text layout v ++ 10 ∷ []
 
 -- the line printed for a tree: that of the value it means
 abbrev pub printed : Layout → Document → List ℕ
-printed layout d = line layout (meaning d.node)
+printed layout d = output_line layout (meaning d.node)
 
 -- these bytes are written, or after an error a prefix of them
 abbrev pub WritesWhole : {E : Type 0} → List ℕ → Result (Unit {0}) E → Option (List ℕ) → Option (List ℕ) → Type 0

@@ -3,7 +3,7 @@
 ghost use Rattle.std.specs.Prelude.{◌≡◌, ℕ, List, [], IfOk, IfErr, OnOk, map, option_map, string_bytes, vec_len};
 ghost use Rattle.std.specs.Io.KnownBytes.{Consumes, Keeps};
 ghost use Rattle.jzon.specs.View.{view};
-ghost use Rattle.jzonfmt.specs.Run.{Answers, IsReadFault, ReadsInput, Runs, WritesWhole, line, text};
+ghost use Rattle.jzonfmt.specs.Run.{Answers, IsReadFault, ReadsInput, Runs, WritesWhole, output_line, text};
 ghost use Rattle.jzonfmt.specs.Drive.{Drives, asked_layout, asked_options, asked_spaces, asking, fault_status};
 
 use jzon::{Error, JsonValue, Reading, util};
@@ -168,7 +168,7 @@ fn print_input<W: Write>(
 /// Writes the text of the value in the layout and a newline. After an error a prefix of them is
 /// written.
 fn write_line<W: Write>(writer: &mut W, value: &JsonValue, layout: Layout) -> io::Result<()>
-    ensures { WritesWhole (line layout (view value.now)) result (W.contents writer.old)
+    ensures { WritesWhole (output_line layout (view value.now)) result (W.contents writer.old)
         (W.contents writer.new) }
 {
     write_text(writer, value, layout)?;

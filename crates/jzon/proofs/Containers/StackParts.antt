@@ -8,7 +8,7 @@ use Rattle.std.specs.Prelude.{reverse, MatchOption}
 use Rattle.std.proofs.lemmas.List.{reverse-append}
 use Rattle.std.proofs.lemmas.Option.{IfSome_then}
 use Rattle.jzon_base.specs.PairList.{find, put_each}
-use Rattle.jzon_base.specs.Private.Known.{Knows}
+use Rattle.jzon_base.specs.Private.KnownKeys.{Knows}
 use Rattle.jzon_base.specs.declared.keys.known.KnownKeys.{KnownKeys}
 use Rattle.jzon_base.proofs.KeyIndex.KnownKeys.{known-put_each}
 use Rattle.jzon_base.proofs.KeyIndex.Positions.{list_any-position}

@@ -10,9 +10,9 @@ use Rattle.std.proofs.lemmas.Fmt.{decimal_nonempty, digits_decimal, first_decima
 use Rattle.std.proofs.lemmas.List.Elements.{All-from_recursion}
 use Rattle.jzon_base.specs.Digits.{IsDigit, add_digit, digits_number, kept_len, kept, dropped, kept_fraction}
 use Rattle.jzon_base.specs.Digits.{own_power, read_exponent, clamp}
-use Rattle.jzon_base.specs.Decimal.{Decimal, parts, same}
+use Rattle.jzon_base.specs.Decimal.{Decimal, parts, same_decimal}
 use Rattle.jzon_base.specs.NumberText.{sign_text, magnitude_text, number_text, decimal_text}
-use Rattle.jzon_base.specs.Private.Same.{same_equiv}
+use Rattle.jzon_base.specs.Private.Same.{same_decimal_equiv}
 use Rattle.jzon_base.specs.LostDigits.{HoldsOfNone, loses_last}
 use Rattle.jzon_base.proofs.Numbers.LostDigits.{held_if, in_range_if, prefix_le}
 use Rattle.jzon_base.proofs.Numbers.DigitPrefixes.{kept_all}
@@ -26,7 +26,7 @@ use Rattle.jzon.proofs.ReadBack.NumeralTexts.{LosesNothing, StaysExponent}
 pub record IsPrintedAs (s : Bool) (m : ℕ) (e : ℤ) (n : Numeral) : Type 0 where
   pub in_grammar : grammar.IsNumeral n
   pub spelled : numeral_spelled n ≡ number_text s m e
-  pub alike : same (number_of n) (parts s m e) ≡ true
+  pub alike : same_decimal (number_of n) (parts s m e) ≡ true
   pub prints : decimal_text (number_of n) ≡ number_text s m e
   pub loses_nothing : LosesNothing n
 
@@ -137,9 +137,9 @@ number_text-above s m e above = ap (λ t. sign_text s ++ t) (if-ne m 0 (codes "0
 -- a number that means d
 pub means_as : (s : Bool) (m : ℕ) (e : ℤ) (n : Numeral) (d : Decimal) → grammar.IsNumeral n
     → LosesNothing n → numeral_spelled n ≡ number_text s m e → number_of n ≡ d
-    → same d (parts s m e) ≡ true → decimal_text d ≡ number_text s m e → HasNumeral s m e
+    → same_decimal d (parts s m e) ≡ true → decimal_text d ≡ number_text s m e → HasNumeral s m e
 means_as s m e n d ok none spelled means alike prints =
-    let same_value = ap (λ x. same x (parts s m e)) means ∙ alike in (
+    let same_value = ap (λ x. same_decimal x (parts s m e)) means ∙ alike in (
       n,
       record {
         in_grammar = ok;
@@ -215,4 +215,4 @@ means_exactly s m e w f x above fits small whole digits few power spelled value 
     means_as s m e (numeral s w f x) (parts s m e) (whole_test w whole, digits_test f digits, power)
     (all_kept (w ++ f) (omega (arith, value)), exponent_stays w f x e (omega (arith, value)) few sum small)
     (ap (λ t. minus_spelled (not s) ++ t) (sym (append_assoc w (fraction_spelled f) (exponent_spelled x))) ∙ sym text)
-    (exact_parts s w f x m e value fits sum small) (same_equiv.refl (parts s m e)) refl
+    (exact_parts s w f x m e value fits sum small) (same_decimal_equiv.refl (parts s m e)) refl

@@ -11,9 +11,9 @@ use Rattle.std.proofs.Math.Bool.{or-true}
 use Rattle.std.proofs.Math.Nat.{pow-suc, one-le-mul}
 use Rattle.std.proofs.lemmas.List.{take_at}
 use Rattle.jzon_base.specs.Digits.{add_digit, digits_number, kept_len, dropped, kept_fraction}
-use Rattle.jzon_base.specs.Decimal.{parts, same, scaled}
+use Rattle.jzon_base.specs.Decimal.{parts, same_decimal, scaled}
 use Rattle.jzon_base.specs.NumberText.{sign_text, number_text}
-use Rattle.jzon_base.specs.Private.Same.{same_equiv}
+use Rattle.jzon_base.specs.Private.Same.{same_decimal_equiv}
 use Rattle.jzon_base.proofs.Numbers.DigitPrefixes.{kept_len-at}
 use Rattle.jzon_base.proofs.Numbers.Scaling.{scaled-eq-fits}
 use Rattle.jzon.specs.Meaning.{number_of}
@@ -97,7 +97,7 @@ zeros_spelled s m k above room =
     ∙ sym (number_text-zeros s m k above room)
 
 same_scaled : (s : Bool) (m : ℕ) (e : ℤ) (n : ℕ) (f : ℤ) → (scaled m e == scaled n f) ≡ true
-    → same (parts s m e) (parts s n f) ≡ true
+    → same_decimal (parts s m e) (parts s n f) ≡ true
 same_scaled true m e n f h = rw h (or-true ((m == 0) && (n == 0)))
 same_scaled false m e n f h = rw h (or-true ((m == 0) && (n == 0)))
 
@@ -114,7 +114,7 @@ zeros_kept s m k above fits room all =
     (zeros_spelled s m k above room)
     (exact_parts s w [] None v (pos 0) (ap digits_number (append-nil w) ∙ digits_number-zeros m k fits) all refl
     (omega (arith, ints)))
-    (same_equiv.symm (parts s v (pos 0)) (parts s m (pos k))
+    (same_decimal_equiv.symm (parts s v (pos 0)) (parts s m (pos k))
     ∙ same_scaled s m (pos k) v (pos 0) (sym (scaled-eq-fits m (pos k) v (pos 0) k v (omega arith) refl)
     ∙ eq-eqb v v refl))
     (number_text-above s v (pos 0) some ∙ ap (λ t. sign_text s ++ t) (decimal-zeros m k above all)
@@ -186,7 +186,7 @@ zero_dropped s m j above fits room over =
     (whole_test w (zeros_whole m (suc j) above fits), tt, tt)
     (last_zero (w ++ []) prefix n refl all (append-nil w ∙ split), tt)
     (zeros_spelled s m (suc j) above room) (one_dropped s w u n all value size)
-    (same_equiv.symm (parts s u (pos 1)) (parts s m (pos (suc j)))
+    (same_decimal_equiv.symm (parts s u (pos 1)) (parts s m (pos (suc j)))
     ∙ same_scaled s m (pos (suc j)) u (pos 1) (sym (scaled-eq-fits m (pos (suc j)) u (pos 1) j u (omega arith) refl)
     ∙ eq-eqb u u refl))
     (number_text-zeros s u 1 some (omega (arith, ap length shown, prefix_size))

@@ -1,7 +1,7 @@
 -- How the parser's two stacks hold the open containers: each has a part of the keys and a part of the values.
 use Rattle.std.specs.Prelude.{◌≤◌, ℕ, List, [], ◌∷◌, take, drop, reverse, vec_len, IfSome}
 use Rattle.std.specs.Option.{is_some}
-use Rattle.jzon_base.specs.Private.Known.{Knows}
+use Rattle.jzon_base.specs.Private.KnownKeys.{Knows}
 use Rattle.jzon_base.specs.declared.keys.known.KnownKeys.{KnownKeys}
 use Rattle.jzon_tree.specs.declared.value.JsonValue.{JsonValue}
 use Rattle.jzon.specs.Private.OpenContainers.{Container, OpenContainers, AwaitsValue}

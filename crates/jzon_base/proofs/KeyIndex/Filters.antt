@@ -10,7 +10,7 @@ use Rattle.std.proofs.lemmas.Nat.Bits.{bit_at_set_same, bit_at_set_other}
 use Rattle.jzon_base.specs.declared.keys.known.KnownKeys.{KnownKeys}
 use Rattle.jzon_base.specs.declared.keys.known.KnownKeys.TheVariants.{Few, Indexed}
 use Rattle.jzon_base.specs.Private.Filter.{HasBit, HaveBits, HasWordBit, word_bit_of}
-use Rattle.jzon_base.specs.Private.Known.{Knows}
+use Rattle.jzon_base.specs.Private.KnownKeys.{Knows}
 
 -- the word, with one bit set
 abbrev pub word_with : ℕ → ℕ → ℕ

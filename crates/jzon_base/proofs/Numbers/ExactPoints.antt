@@ -5,7 +5,7 @@ use Rattle.jzon_base.proofs.Common.{subst, IsTrue, IfSome, ◌||◌, ◌&&◌, w
 use Rattle.std.proofs.Math.Nat.{mod-eq-sub-div-mul, div-mul-le_self}
 use Rattle.std.proofs.lemmas.Bool.{eqb-true}
 use Rattle.jzon_base.specs.Decimal.{Decimal, nan, parts, scaled, shifted, whole_part, is_whole, is_whole_at}
-use Rattle.jzon_base.specs.Decimal.{unsigned_fixed_point, integer_at, same, signed, parts_of}
+use Rattle.jzon_base.specs.Decimal.{unsigned_fixed_point, integer_at, same_decimal, signed, parts_of}
 use Rattle.jzon_base.specs.Decimal.{IsExactAt, SomeWhere}
 use Rattle.jzon_base.proofs.Numbers.Powers.{power_pos, eq-times}
 use Rattle.jzon_base.proofs.Numbers.Scaling.{scaled-down}
@@ -49,7 +49,7 @@ zero_scaled m e f h =
 
 -- the sign and the exact decimal are those of the number
 same_by : (positive : Bool) (m : ℕ) (e : ℤ) (w point : ℕ) → scaled m e ≡ scaled w (neg_ℤ (pos point))
-    → IsTrue (same (parts positive m e) (integer_at (signed positive w) point))
+    → IsTrue (same_decimal (parts positive m e) (integer_at (signed positive w) point))
 same_by true m e w point h =
     rw (eq-eqb (scaled m e) (scaled w (neg_ℤ (pos point))) h) (or_true ((m == 0) && (w == 0)))
 same_by false m e zero point h = let none = zero_scaled m e (neg_ℤ (pos point)) h in rw none refl
@@ -59,16 +59,16 @@ same_by false m e (suc w) point h =
 -- the exponent of a number has 16 bits
 pub same-exact : (positive : Bool) (m : ℕ) (e : ℤ) (point : ℕ) → FitsSigned w16 e → point ≤ 32768
     → is_whole m (e +ℤ pos point) ≡ true
-    → IsTrue (same (parts positive m e) (integer_at (signed positive (whole_part m (e +ℤ pos point))) point))
+    → IsTrue (same_decimal (parts positive m e) (integer_at (signed positive (whole_part m (e +ℤ pos point))) point))
 same-exact positive m e point fits low whole =
     same_by positive m e (whole_part m (e +ℤ pos point)) point
     (exact_by m e point (e +ℤ pos point) fits low refl whole)
 
 is_exact_by : (positive : Bool) (m : ℕ) (e : ℤ) (point : ℕ) (n : ℤ) → FitsSigned w16 e → point ≤ 32768
     → is_whole m (e +ℤ pos point) ≡ true → signed positive (whole_part m (e +ℤ pos point)) ≡ n
-    → IsTrue (same (parts positive m e) (integer_at n point))
+    → IsTrue (same_decimal (parts positive m e) (integer_at n point))
 is_exact_by positive m e point n fits low whole is =
-    subst (λ k. IsTrue (same (parts positive m e) (integer_at k point))) is
+    subst (λ k. IsTrue (same_decimal (parts positive m e) (integer_at k point))) is
     (same-exact positive m e point fits low whole)
 
 -- the parts, read, have an exponent of 16 bits
@@ -81,7 +81,7 @@ IsExactAt-whole (parts positive k f) point b m e fits is whole = λ low n found.
 
 pub exact_unsigned : (d : Decimal) (point : ℕ) (r : Option ℕ) → IsExactAt d point
     → SomeWhere (unsigned_fixed_point d point) (λ n. n < 2 ^ 64) r
-    → IfSome r (λ n. point ≤ 32768 → IsTrue (same d (integer_at (pos n) point)))
+    → IfSome r (λ n. point ≤ 32768 → IsTrue (same_decimal d (integer_at (pos n) point)))
 exact_unsigned d point None exact h = tt
 exact_unsigned nan point (Some n) exact h = absurd (cc)
 exact_unsigned (parts true m e) point (Some n) exact h = λ low. exact low (pos n) (ap (λ k. Some (pos k)) (sym h.1))

@@ -6,10 +6,10 @@ use Rattle.jzon_base.specs.declared.number.Category.TheVariants.{Negative, Posit
 use Rattle.jzon_base.specs.declared.number.Number.TheInside.{Inside}
 
 -- the decimal that a category, a mantissa and an exponent represent
-abbrev pub value_at : Category → ℕ → ℤ → Decimal
-value_at Negative m e = parts false m e
-value_at Positive m e = parts true m e
-value_at Nan m e = nan
+abbrev pub decimal_of : Category → ℕ → ℤ → Decimal
+decimal_of Negative m e = parts false m e
+decimal_of Positive m e = parts true m e
+decimal_of Nan m e = nan
 
 -- NaN has no parts: its fields are 0
 abbrev pub HasNoParts : Category → ℕ → ℤ → Type 0

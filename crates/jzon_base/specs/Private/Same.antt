@@ -1,5 +1,5 @@
--- `same` is an equivalence: two decimals are the same if and only if their classes are equal. (These are proofs; they are
--- here because the laws of `PartialEq` and `Eq` cite them.)
+-- `same_decimal` is an equivalence: two decimals are the same if and only if their classes are equal. (These are proofs;
+-- they are here because the laws of `PartialEq` and `Eq` cite them.)
 use Rattle.std.specs.Prelude.{◌≡◌, ℕ, zero, suc, ℤ, ◌<◌, ◌^◌, ◌*◌, Bool, true, false, ◌&&◌, ◌||◌, Option, None, Some, refl}
 use Rattle.std.specs.Prelude.{nat_eq}
 use Rattle.std.specs.Bool.{beq}
@@ -10,7 +10,7 @@ use Rattle.std.proofs.Common.{ap, ◌∙◌, sym, subst}
 use Rattle.std.proofs.Math.Dec.{lit≤}
 use Rattle.std.proofs.Math.Nat.{lt_irrefl, one-le-mul, one-le-pow, suc-ne-zero, zero-lt-suc, zero-mul}
 use Rattle.std.proofs.lemmas.Bool.{ne_eqb}
-use Rattle.jzon_base.specs.Decimal.{Decimal, nan, parts, same, scaled, shifted}
+use Rattle.jzon_base.specs.Decimal.{Decimal, nan, parts, same_decimal, scaled, shifted}
 
 -- with the mantissa 0 it is 0
 pub scaled-zero : (m : ℕ) (e : ℤ) → m ≡ 0 → scaled m e ≡ 0
@@ -65,20 +65,20 @@ apart-zero s t m e f = and-false (beq s t) (nat_eq (scaled (suc m) e) (scaled 0 
     (nat_eq_equiv.symm (scaled (suc m) e) (scaled 0 f)
     ∙ apart (scaled 0 f) (scaled (suc m) e) (scaled-zero 0 f refl) (scaled-pos (suc m) e (zero-lt-suc m)))
 
-same-by-class : (x y : Decimal) → same x y ≡ same_class (class_of x) (class_of y)
-same-by-class nan nan = refl
-same-by-class nan (parts t zero f) = refl
-same-by-class nan (parts t (suc n) f) = refl
-same-by-class (parts s zero e) nan = refl
-same-by-class (parts s (suc m) e) nan = refl
-same-by-class (parts s zero e) (parts t zero f) = refl
-same-by-class (parts s zero e) (parts t (suc n) f) =
+same_decimal-by-class : (x y : Decimal) → same_decimal x y ≡ same_class (class_of x) (class_of y)
+same_decimal-by-class nan nan = refl
+same_decimal-by-class nan (parts t zero f) = refl
+same_decimal-by-class nan (parts t (suc n) f) = refl
+same_decimal-by-class (parts s zero e) nan = refl
+same_decimal-by-class (parts s (suc m) e) nan = refl
+same_decimal-by-class (parts s zero e) (parts t zero f) = refl
+same_decimal-by-class (parts s zero e) (parts t (suc n) f) =
     ap (λ z. z || (beq s t && nat_eq (scaled 0 e) (scaled (suc n) f))) (not_zero n) ∙ zero-apart s t e n f
-same-by-class (parts s (suc m) e) (parts t zero f) =
+same_decimal-by-class (parts s (suc m) e) (parts t zero f) =
     ap (λ z. (z && true) || (beq s t && nat_eq (scaled (suc m) e) (scaled 0 f))) (not_zero m) ∙ apart-zero s t m e f
-same-by-class (parts s (suc m) e) (parts t (suc n) f) =
+same_decimal-by-class (parts s (suc m) e) (parts t (suc n) f) =
     ap (λ z. (z && nat_eq (suc n) 0) || (beq s t && nat_eq (scaled (suc m) e) (scaled (suc n) f))) (not_zero m)
 
--- `same` is an equivalence
-pub same_equiv : IsEquivalence same
-same_equiv = subst IsEquivalence (λ i x y. sym (same-by-class x y) i) (on_equiv class_of same_class_equiv)
+-- `same_decimal` is an equivalence
+pub same_decimal_equiv : IsEquivalence same_decimal
+same_decimal_equiv = subst IsEquivalence (λ i x y. sym (same_decimal-by-class x y) i) (on_equiv class_of same_class_equiv)

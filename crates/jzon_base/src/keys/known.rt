@@ -7,7 +7,7 @@ ghost use Rattle.std.specs.Prelude.{◌≡◌, ◌++◌, ◌∷◌, [], true, fa
 ghost use Rattle.std.specs.List.{position};
 ghost use Rattle.std.specs.Str.{bytes_eq};
 ghost use Rattle.jzon_base.specs.Private.Runs.{IsTable};
-ghost use Rattle.jzon_base.specs.Private.Known.{Knows};
+ghost use Rattle.jzon_base.specs.Private.KnownKeys.{Knows};
 
 use super::few::LINEAR_MAX;
 use super::filter::Filter;

@@ -4,7 +4,7 @@
 ghost use Rattle.std.specs.Prelude.{◌≡◌, pos, ◌/◌, ◌%◌, ◌==◌, ◌+ℤ◌, ◌<◌, ◌≤◌, ◌^◌, FitsSigned, IfSome, IsTrue, true};
 ghost use Rattle.std.specs.Int.{w64};
 ghost use Rattle.std.specs.Option.{SomeIff};
-ghost use Rattle.jzon_base.specs.Decimal.{fixed_point, unsigned_fixed_point, whole_part, SomeWhere, exact_fixed_point, exact_unsigned_fixed_point, is_whole, is_whole_at, integer_at, same, IsExactAt};
+ghost use Rattle.jzon_base.specs.Decimal.{fixed_point, unsigned_fixed_point, whole_part, SomeWhere, exact_fixed_point, exact_unsigned_fixed_point, is_whole, is_whole_at, integer_at, same_decimal, IsExactAt};
 
 use super::to_integer::with_sign;
 use super::{Number, times_power};
@@ -43,7 +43,7 @@ impl Number {
         ensures number { SomeWhere (exact_unsigned_fixed_point self.now point)
             (λ n. n < 2 ^ 64) result }
         ensures equal { IfSome result (λ n. point ≤ 32768
-            → IsTrue (same self.now (integer_at (pos n) point))) }
+            → IsTrue (same_decimal self.now (integer_at (pos n) point))) }
     {
         if self.is_exact_at(point) {
             self.as_fixed_point_u64(point)
@@ -58,7 +58,7 @@ impl Number {
     pub fn as_exact_fixed_point_i64(&self, point: u16) -> Option<i64>
         ensures number { SomeWhere (exact_fixed_point self.now point) (FitsSigned w64) result }
         ensures equal { IfSome result (λ n. point ≤ 32768
-            → IsTrue (same self.now (integer_at n point))) }
+            → IsTrue (same_decimal self.now (integer_at n point))) }
     {
         if self.is_exact_at(point) {
             self.as_fixed_point_i64(point)

@@ -2,21 +2,21 @@
 //! exponent 0; 0 is positive.
 
 ghost use Rattle.std.specs.Prelude.{◌≡◌, pos, true};
-ghost use Rattle.jzon_base.specs.Decimal.{integer_parts, same};
+ghost use Rattle.jzon_base.specs.Decimal.{integer_parts, same_decimal};
 
 use super::Number;
 
 impl Number {
     /// Whether this equals the integer `value`, whatever its parts are: `5e2` equals 500.
     pub fn eq_i64(&self, value: i64) -> bool
-        ensures { result ≡ same self.now (integer_parts value) }
+        ensures { result ≡ same_decimal self.now (integer_parts value) }
     {
         *self == Number::from(value)
     }
 
     /// As `eq_i64`.
     pub fn eq_u64(&self, value: u64) -> bool
-        ensures { result ≡ same self.now (integer_parts (pos value)) }
+        ensures { result ≡ same_decimal self.now (integer_parts (pos value)) }
     {
         *self == Number::from(value)
     }

@@ -5,7 +5,7 @@ ghost use Rattle.std.specs.Prelude.{◌≡◌, ◌+◌, ◌≤◌, ◌<◌, ◌�
 ghost use Rattle.std.specs.Io.KnownBytes.{Appends};
 ghost use Rattle.arrayvec.specs.ArrayString.{array_string_len};
 ghost use Rattle.jzon_base.specs.NumberText.{IsCommon, point_after, point_after_first, fraction_text, small_exponent_text, magnitude_text, number_text};
-ghost use Rattle.jzon_base.specs.Written.{AppendsBeginning};
+ghost use Rattle.jzon_base.specs.PartialWrites.{AppendsBeginning};
 
 use crate::util::write_bytes;
 use arrayvec::ArrayString;

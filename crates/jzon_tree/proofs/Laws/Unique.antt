@@ -4,7 +4,7 @@ use Rattle.jzon_base.proofs.Common.{length, append_assoc, length-append, arith, 
 use Rattle.jzon_base.proofs.Common.{Ok, Err, IsTrue, OnOk, OnErr, range_with_len, bytes_eq, Appends, get_or-append_seam}
 use Rattle.jzon_base.proofs.Common.{take-append_seam, bytes_eq-Decides}
 use Rattle.std.specs.Borrow.{GName}
-use Rattle.jzon_base.specs.Written.{AppendsBeginning}
+use Rattle.jzon_base.specs.PartialWrites.{AppendsBeginning}
 use Rattle.jzon_base.specs.PairList.{keys_of}
 use Rattle.jzon_tree.specs.Generator.{Adds, Begins, Sends, Emitted, Prints, insertion}
 use Rattle.jzon_tree.specs.Generators.{fresh}

@@ -2,7 +2,7 @@
 use Rattle.jzon_base.proofs.Common.{ℕ, List, [], ◌++◌, take, drop, Option, None, Some, refl, sym, ap, ◌∙◌, append_assoc}
 use Rattle.jzon_base.proofs.Common.{append-nil, take-append-drop, Result, Ok, Err, IsErr, ◌≡◌, OnOk, OnErr, MatchResult}
 use Rattle.jzon_base.proofs.Common.{Appends}
-use Rattle.jzon_base.specs.Written.{AppendsBeginning}
+use Rattle.jzon_base.specs.PartialWrites.{AppendsBeginning}
 use Rattle.jzon_tree.specs.Generator.{Adds, Begins, Just, Sends}
 
 pub adds_same : (P : List ℕ → Type 0) (o : Option (List ℕ)) → P [] → Adds P o o

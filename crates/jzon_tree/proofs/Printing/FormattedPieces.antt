@@ -5,7 +5,7 @@ use Rattle.jzon_base.proofs.Common.{prefix_len, lt-ltb, nil_from_length}
 use Rattle.std.proofs.Common.{length-drop}
 use Rattle.std.proofs.Math.Seq.{drop-cons}
 use Rattle.jzon_base.specs.Private.PlainBytes.{is_plain}
-use Rattle.jzon_tree.specs.Displayed.{comma_text, member_text}
+use Rattle.jzon_tree.specs.DisplayText.{comma_text, member_text}
 use Rattle.jzon_tree.specs.Text.{escaped, escaped_byte, quoted, compact, compact_layout, layout_text, more_values_text}
 use Rattle.jzon_tree.specs.Text.{more_pairs_text}
 use Rattle.jzon_tree.specs.Value.{Value, array, object, Values, no_values, value, ValuePairs, no_pairs, pair}

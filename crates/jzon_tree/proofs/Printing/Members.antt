@@ -11,7 +11,7 @@ use Rattle.jzon_tree.specs.Text.{quoted}
 use Rattle.jzon_tree.specs.Value.{Value, object, pairs_of}
 use Rattle.jzon_tree.specs.Writing.{Style, IsStyle, IsOrder, text_at, Writes, WritesPairs, colon_text}
 use Rattle.jzon_tree.specs.Lawful.{ArePairs}
-use Rattle.jzon_tree.specs.Private.Printing.{IsBetween, IsClosing, IsEntry, pair_at, AreMembers}
+use Rattle.jzon_tree.specs.Private.Printing.{IsBetween, IsClosing, IsEntry, pair_at, ArePrintedMembers}
 use Rattle.jzon_tree.proofs.Printing.Orders.{order_occurs, order_within, order_differs}
 use Rattle.jzon_tree.proofs.Values.Views.{list_of_pairs-pairs_of}
 use Rattle.jzon_tree.proofs.Printing.Writings.{some_between, some_writing, encloses, Items-append, needs_comma}
@@ -27,7 +27,7 @@ arranged-set (q ∷ qs) p ts x h =
 
 -- ---- one more entry
 module _ (s : Style) (d : ℕ) (es : List (List ℕ × Value)) (ps : List ℕ) (o : IsOrder (length es) ps) where
-  pub members_none : AreMembers s d es (take 0 ps) []
+  pub members_none : ArePrintedMembers s d es (take 0 ps) []
   members_none = (replicate (length es) [], length-replicate (length es) [], λ k h. absurd (omega arith), refl)
 
   push_each : (i : ℕ) (ts : List (List ℕ)) (x : List ℕ) → i < length ps → length ts ≡ length es
@@ -47,9 +47,9 @@ module _ (s : Style) (d : ℕ) (es : List (List ℕ × Value)) (ps : List ℕ) (
             rw (same, get_or-set_same ts (get_or ps i 0) x [] (omega (arith, order_within (length es) ps o i h))) e
       ])
 
-  pub members_push : (i : ℕ) (u w x : List ℕ) → i < length ps → AreMembers s d es (take i ps) u
+  pub members_push : (i : ℕ) (u w x : List ℕ) → i < length ps → ArePrintedMembers s d es (take i ps) u
       → IsBetween s d (nat_lt 0 i) w → IsEntry s d (pair_at es (get_or ps i 0)) x
-      → AreMembers s d es (take (suc i) ps) (u ++ (w ++ x))
+      → ArePrintedMembers s d es (take (suc i) ps) (u ++ (w ++ x))
   members_push i u w x h (ts, l, each, items) hw hx =
       let p = get_or ps i 0 in
       let kept : map (text_at (set ts p x)) (take i ps) ≡ map (text_at ts) (take i ps) =
@@ -80,22 +80,22 @@ module _ (s : Style) (d : ℕ) (es : List (List ℕ × Value)) (ps : List ℕ) (
         (quoted f.0 ++ (colon_text lawful.colon.0 ++ x.0), (lawful.colon.0, x.0, lawful.colon.1, x.1, refl))
     some_entry (f ∷ fs) (suc p) k h = some_entry fs p k.2 (omega arith)
 
-    fill : (m i : ℕ) (u : List ℕ) → i + m ≡ length ps → AreMembers s d es (take i ps) u
-        → Begins (AreMembers s d es ps) u
+    fill : (m i : ℕ) (u : List ℕ) → i + m ≡ length ps → ArePrintedMembers s d es (take i ps) u
+        → Begins (ArePrintedMembers s d es ps) u
     fill zero i u e h = ([], rw (append-nil u) (rw (take_all i ps (omega arith)) at h))
     fill (suc m) i u e h =
         let w : (b : List ℕ) × IsBetween s d (nat_lt 0 i) b = some_between s lawful d (nat_lt 0 i) in
         let x : (b : List ℕ) × IsEntry s d (pair_at es (get_or ps i 0)) b = some_entry es (get_or ps i 0) keyed
         (order_within (length es) ps o i (omega arith)) in
-        let r : Begins (AreMembers s d es ps) (u ++ (w.0 ++ x.0)) = fill m (suc i) (u ++ (w.0 ++ x.0)) (omega arith)
+        let r : Begins (ArePrintedMembers s d es ps) (u ++ (w.0 ++ x.0)) = fill m (suc i) (u ++ (w.0 ++ x.0)) (omega arith)
         (members_push i u w.0 x.0 (omega arith) h w.1 x.1) in
         ((w.0 ++ x.0) ++ r.0, rw (sym (append_assoc u (w.0 ++ x.0) r.0)) r.1)
 
-    pub members_begin : (i : ℕ) (u : List ℕ) → i ≤ length ps → AreMembers s d es (take i ps) u
-        → Begins (AreMembers s d es ps) u
+    pub members_begin : (i : ℕ) (u : List ℕ) → i ≤ length ps → ArePrintedMembers s d es (take i ps) u
+        → Begins (ArePrintedMembers s d es ps) u
     members_begin i u h = fill (length ps - i) i u (omega arith)
 
-    pub some_members : (b : List ℕ) × AreMembers s d es ps b
+    pub some_members : (b : List ℕ) × ArePrintedMembers s d es ps b
     some_members = members_begin 0 [] (omega arith) members_none
 
 -- ---- the brackets of an object that is not empty
@@ -116,7 +116,7 @@ named s d es ps ts o each p h =
 
 pub object_closed : (s : Style) (d : ℕ) (es : List (List ℕ × Value)) (ps : List ℕ) → IsOrder (length es) ps
     → IsTrue (s.order (keys_of es) ps) → 0 < length es
-    → (y z : List ℕ) → AreMembers s (suc d) es ps y → IsClosing s d 125 z
+    → (y z : List ℕ) → ArePrintedMembers s (suc d) es ps y → IsClosing s d 125 z
     → Writes s d (object (pairs_of es)) (123 ∷ (y ++ z))
 object_closed s d [] ps o t n y z m c = absurd (omega arith)
 object_closed s d (e ∷ es) [] o t n y z m c = absurd (omega (arith, o.as_many))

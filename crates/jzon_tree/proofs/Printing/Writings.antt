@@ -9,7 +9,7 @@ use Rattle.jzon_tree.specs.Value.{values_of, ValuePairs, no_pairs, pair, list_of
 use Rattle.jzon_tree.specs.Writing.{Style, IsStyle, text_at, Joins, Encloses, Writes, WritesEach, WritesPairs}
 use Rattle.jzon_tree.specs.Writing.{colon_text}
 use Rattle.jzon_tree.specs.Lawful.{IsValue, AreValues, ArePairs}
-use Rattle.jzon_tree.specs.Private.Printing.{IsBetween, IsClosing, Items, AreItems}
+use Rattle.jzon_tree.specs.Private.Printing.{IsBetween, IsClosing, Items, ArePrintedItems}
 
 -- ---- texts with whitespace and commas
 pub some_between : (s : Style) → IsStyle s → (d : ℕ) (comma : Bool) → (b : List ℕ) × IsBetween s d comma b
@@ -158,15 +158,15 @@ pub MoreItems-cons : (s : Style) (d : ℕ) (comma : Bool) (v : Value) (vs : List
     → IsBetween s d comma w → Writes s d v x → MoreItems s d true vs z → MoreItems s d comma (v ∷ vs) (w ++ (x ++ z))
 MoreItems-cons s d comma v vs w x z hw hx (ts, ht, hi) = (x ∷ ts, (hx, ht), (w, z, hw, hi, refl))
 
-pub AreItems-append : (s : Style) (d : ℕ) (us vs : List Value) (b z : List ℕ) → AreItems s d us b
-    → MoreItems s d (nat_lt 0 (length us)) vs z → AreItems s d (us ++ vs) (b ++ z)
+pub AreItems-append : (s : Style) (d : ℕ) (us vs : List Value) (b z : List ℕ) → ArePrintedItems s d us b
+    → MoreItems s d (nat_lt 0 (length us)) vs z → ArePrintedItems s d (us ++ vs) (b ++ z)
 AreItems-append s d us vs b z (xs, hx, hb) (ys, hy, hz) =
     let same : needs_comma false xs ≡ nat_lt 0 (length us) = needs_comma-after xs
     ∙ ap (λ n. nat_lt 0 n) (WritesEach-length s d us xs hx) in
     (xs ++ ys, WritesEach-append s d us vs xs ys hx hy, Items-append s d false xs ys b z hb (rw same hz))
 
 -- the brackets of an array that is not empty
-pub array_closed : (s : Style) (d : ℕ) (vs : List Value) → 0 < length vs → (y z : List ℕ) → AreItems s (suc d) vs y
+pub array_closed : (s : Style) (d : ℕ) (vs : List Value) → 0 < length vs → (y z : List ℕ) → ArePrintedItems s (suc d) vs y
     → IsClosing s d 93 z → Writes s d (array (values_of vs)) (91 ∷ (y ++ z))
 array_closed s d [] n y z i c = absurd (omega arith)
 array_closed s d (v ∷ vs) n y z ([], w, i) c = absurd w

@@ -24,10 +24,10 @@ known_len None = 0
 known_len (Some xs) = length xs
 
 -- the bytes that the writer didn't take yet
-abbrev pub left : {W : Type 0} {S : Type 0} → Buffered W S → List ℕ
-left b = drop b.taken (buffer_items b.buffer)
+abbrev pub untaken : {W : Type 0} {S : Type 0} → Buffered W S → List ℕ
+untaken b = drop b.taken (buffer_items b.buffer)
 
 -- What the buffer holds, where its writer had `start` bytes at first. The name of the reference is part of it: a call
 -- that only keeps what is held, or appends to it, has not put another writer in its place.
 abbrev pub held : {W : Type 0} {S : Type 0} → (W → Option (List ℕ)) → ℕ → Buffered W S → Option (List ℕ)
-held contents start b = held_since start b.inner.ghost_name (left b) (contents b.inner.now)
+held contents start b = held_since start b.inner.ghost_name (untaken b) (contents b.inner.now)

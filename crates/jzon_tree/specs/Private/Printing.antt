@@ -3,7 +3,7 @@ use Rattle.std.specs.Prelude.{◌≡◌, ℕ, ◌+◌, ◌<◌, ◌≤◌, Bool,
 use Rattle.std.specs.Prelude.{MatchResult, Result, slice_index_or}
 use Rattle.std.specs.List.{prefix_len}
 use Rattle.jzon_base.specs.Private.PlainBytes.{is_plain}
-use Rattle.jzon_tree.specs.Displayed.{comma_text}
+use Rattle.jzon_tree.specs.DisplayText.{comma_text}
 use Rattle.jzon_tree.specs.Generator.{Emitted, Added, Stopped}
 use Rattle.jzon_tree.specs.Lawful.{IsValue}
 use Rattle.jzon_tree.specs.Text.{quoted}
@@ -26,8 +26,8 @@ Items s dent comma (t ∷ ts) b = (w rest : List ℕ) × IsBetween s dent comma 
     × (b ≡ w ++ (t ++ rest))
 
 -- the values in order, without the brackets
-abbrev pub AreItems : Style → ℕ → List Value → List ℕ → Type 0
-AreItems s dent vs b = (ts : List (List ℕ)) × WritesEach s dent (values_of vs) ts × Items s dent false ts b
+abbrev pub ArePrintedItems : Style → ℕ → List Value → List ℕ → Type 0
+ArePrintedItems s dent vs b = (ts : List (List ℕ)) × WritesEach s dent (values_of vs) ts × Items s dent false ts b
 
 -- an entry: its key, a colon and its value
 abbrev pub IsEntry : Style → ℕ → List ℕ × Value → List ℕ → Type 0
@@ -39,8 +39,8 @@ abbrev pub pair_at : List (List ℕ × Value) → ℕ → List ℕ × Value
 pair_at es p = slice_index_or es p ([], null)
 
 -- the entries at these positions, in order, without the brackets
-abbrev pub AreMembers : Style → ℕ → List (List ℕ × Value) → List ℕ → List ℕ → Type 0
-AreMembers s dent es ps b =
+abbrev pub ArePrintedMembers : Style → ℕ → List (List ℕ × Value) → List ℕ → List ℕ → Type 0
+ArePrintedMembers s dent es ps b =
     (ts : List (List ℕ)) × (length ts ≡ length es) × ((k : ℕ) → k < length ps
     → IsEntry s dent (pair_at es (slice_index_or ps k 0)) (text_at ts (slice_index_or ps k 0)))
     × Items s dent false (map (text_at ts) ps) b

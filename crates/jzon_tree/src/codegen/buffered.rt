@@ -37,14 +37,14 @@ pub(crate) struct Buffered<'a, W, S> {
 }
 
 impl<'a, W: Write, S: Start> Buffered<'a, W, S> {
-    ghost use Rattle.jzon_tree.specs.Private.Buffered.{held, left};
+    ghost use Rattle.jzon_tree.specs.Private.Buffered.{held, untaken};
 
     /// An empty buffer before the writer `inner`.
     #[inline(always)]
     pub(crate) fn new(inner: &'a mut W) -> Buffered<'a, W, S>
         ensures same_reference { result.inner.ghost_name ≡ inner.entry.ghost_name }
         ensures writer { result.inner.now ≡ inner.old }
-        ensures bytes { left result ≡ [] }
+        ensures bytes { untaken result ≡ [] }
     {
         Buffered {
             inner,
@@ -62,7 +62,7 @@ impl<'a, W: Write, S: Start> Buffered<'a, W, S> {
     pub(crate) fn finish(&mut self, answer: io::Result<()>) -> io::Result<()>
         ensures bytes { Keeps (held W.contents S.start self.old)
             (held W.contents S.start self.new) }
-        ensures all { OnOk result (left self.new ≡ []) }
+        ensures all { OnOk result (untaken self.new ≡ []) }
         ensures error { OnErr answer (IsErr result) }
     {
         match answer {
@@ -82,7 +82,7 @@ impl<'a, W: Write, S: Start> Buffered<'a, W, S> {
     fn write_out(&mut self) -> io::Result<()>
         ensures bytes { Keeps (held W.contents S.start self.old)
             (held W.contents S.start self.new) }
-        ensures all { OnOk result (left self.new ≡ []) }
+        ensures all { OnOk result (untaken self.new ≡ []) }
         ensures empty { OnOk result (self.new.buffer.len ≡ 0) }
     {
         // It stays so if the writer fails.

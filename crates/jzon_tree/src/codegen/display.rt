@@ -3,7 +3,7 @@
 
 ghost use Rattle.std.specs.Prelude.{Some};
 ghost use Rattle.std.specs.Fmt.{WritesOnOk};
-ghost use Rattle.jzon_tree.specs.Displayed.{comma_text, displayed};
+ghost use Rattle.jzon_tree.specs.DisplayText.{comma_text, displayed};
 ghost use Rattle.jzon_tree.specs.Text.{compact, quoted};
 ghost use Rattle.jzon_tree.specs.Value.{array};
 ghost use Rattle.jzon_tree.specs.View.{view, view_object, view_values};

@@ -6,7 +6,7 @@ ghost use Rattle.jzon_base.specs.PairList.{keys_of};
 ghost use Rattle.jzon_tree.specs.Entries.{entries_of};
 ghost use Rattle.jzon_tree.specs.Generator.{Emits, IsAnswer, Prints, positions};
 ghost use Rattle.jzon_tree.specs.Lawful.{IsValue, AreValues, ArePairs, IsPair};
-ghost use Rattle.jzon_tree.specs.Private.Printing.{IsBetween, IsClosing, AreItems, IsEntry, AreMembers, PrintsIf, PrintsValue};
+ghost use Rattle.jzon_tree.specs.Private.Printing.{IsBetween, IsClosing, ArePrintedItems, IsEntry, ArePrintedMembers, PrintsIf, PrintsValue};
 ghost use Rattle.jzon_tree.specs.Value.{array};
 ghost use Rattle.jzon_tree.specs.View.{view, view_object, view_values, view_pairs, viewed};
 ghost use Rattle.jzon_tree.specs.Writing.{Writes};
@@ -114,7 +114,7 @@ fn write_array<G: Generator>(g: &mut G, items: &[JsonValue], slot: &mut ErrorSlo
 #[cycle(write_value)]
 fn write_items<G: Generator>(g: &mut G, items: &[JsonValue], slot: &mut ErrorSlot) -> SlotResult<()>
     ensures written { PrintsIf (AreValues (view_values items.now))
-        (AreItems (G.meaning g.old).style (G.meaning g.old).dent (map view items.now))
+        (ArePrintedItems (G.meaning g.old).style (G.meaning g.old).dent (map view items.now))
         (G.meaning g.old) (G.meaning g.new) result }
     ensures slot { OnErr result (IsSome slot.new) }
     ensures value { OnOk result (AreValues (view_values items.now)) }
@@ -161,7 +161,7 @@ fn write_members<G: Generator>(
 ) -> SlotResult<()>
     requires { IsAnswer (G.meaning g.old).style (keys_of (entries_of object.now)) order.now }
     ensures written { PrintsIf (ArePairs (view_pairs (entries_of object.now)))
-        (AreMembers (G.meaning g.old).style (G.meaning g.old).dent
+        (ArePrintedMembers (G.meaning g.old).style (G.meaning g.old).dent
         (viewed (entries_of object.now)) (positions (length (entries_of object.now)) order.now))
         (G.meaning g.old) (G.meaning g.new) result }
     ensures slot { OnErr result (IsSome slot.new) }

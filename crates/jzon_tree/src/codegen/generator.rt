@@ -5,7 +5,7 @@ ghost use Rattle.std.specs.Borrow.{sem, Lends};
 ghost use Rattle.jzon_base.specs.NumberText.{written_text};
 ghost use Rattle.jzon_base.specs.PairList.{keys_of};
 ghost use Rattle.jzon_tree.specs.Entries.{entries_of};
-ghost use Rattle.jzon_tree.specs.Generator.{Emitted, Added, Failed, Emits, Counts, Just, IsForm, IsKey, IsAnswer, noted};
+ghost use Rattle.jzon_tree.specs.Generator.{Emitted, Added, Failed, Emits, Counts, Just, IsForm, IsPrintedKey, IsAnswer, noted};
 ghost use Rattle.jzon_tree.specs.Text.{escaped, quoted};
 ghost use Rattle.jzon_tree.specs.Writing.{IsAllowedWhitespace, IsStyle};
 
@@ -251,7 +251,7 @@ pub trait Generator {
     /// that a generator into memory can add both at once.
     #[doc(hidden)]
     fn try_write_key(&mut self, key: &str, slot: &mut ErrorSlot) -> SlotResult<()>
-        ensures bytes { Emits (IsKey (meaning self.old).style key.now) (meaning self.old)
+        ensures bytes { Emits (IsPrintedKey (meaning self.old).style key.now) (meaning self.old)
             (meaning self.new) result }
         ensures slot { OnErr result (IsSome slot.new) }
     {

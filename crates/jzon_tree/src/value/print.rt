@@ -4,7 +4,7 @@
 
 ghost use Rattle.std.specs.Prelude.{◌≡◌, ◌<◌, ◌≤◌, ◌^◌, OnOk, OnErr, IfOk, IsOkUnless, string_bytes};
 ghost use Rattle.std.specs.Io.KnownBytes.{Appends};
-ghost use Rattle.jzon_base.specs.Written.{AppendsBeginning};
+ghost use Rattle.jzon_base.specs.PartialWrites.{AppendsBeginning};
 ghost use Rattle.jzon_tree.specs.Private.Buffered.{known_len};
 ghost use Rattle.jzon_tree.specs.Generator.{Sends};
 ghost use Rattle.jzon_tree.specs.Lawful.{IsValue};

@@ -2,7 +2,7 @@ use Rattle.jzon_base.proofs.Common.{◌≡◌, ◌∙◌, ap, refl, sym, subst, 
 use Rattle.jzon_base.specs.Decimal.{signed, parts}
 use Rattle.jzon_base.specs.Digits.{digits_number, number_read, read_exponent}
 use Rattle.jzon_base.specs.DigitLimits.{IsFirstTooMany}
-use Rattle.jzon_base.specs.LostDigits.{IsFirst, leaves_range, IsFirstLost, number_digits, IsReadableNumber, IsFirstFault}
+use Rattle.jzon_base.specs.LostDigits.{IsFirst, leaves_range, IsFirstLost, number_digits, IsReadableNumber, IsFirstNumberFault}
 use Rattle.jzon_base.specs.declared.digits.NumberFault.{NumberFault}
 use Rattle.jzon_base.specs.declared.digits.NumberFault.TheVariants.{TooMany, Lost, OutOfRange}
 use Rattle.jzon_tree.specs.Value.{number}
@@ -20,7 +20,7 @@ reports_fault : (text w d ex : List ℕ) (start end : ℕ) (b : Bool) (r : Readi
     → ((i : ℕ) → IsFirstLost w d i → LosesDigit w d i text start)
     → ((i : ℕ) → IsFirst (leaves_range w d (signed b)) ex i → (r : Reading) (fs : Frames) (negative : Bool) → AreKept r w d
     → r.exact ≡ true → Reports text (Inexact (end - length ex + i)) (after_first r fs negative text start))
-    → IsFirstFault r.exact (number_digits w d b ex) f
+    → IsFirstNumberFault r.exact (number_digits w d b ex) f
     → Reports text (number_stop start (length w) (end - length ex) f) (after_first r fs negative text start)
 reports_fault text w d ex start end b r fs negative (TooMany i) many loses leaves h = many i h.0 r fs negative h.1
 reports_fault text w d ex start end b r fs negative (Lost i) many loses leaves h = loses i h.1 r fs negative h.0
@@ -33,7 +33,7 @@ returns-in_err-mantissa-in-None-clause-outcome c r fs same =
     let text = c.args.source.now in
     let failed = err_from_is_err_and c.from_residual.result c.from_residual.ensures.1 in
     let stop = c.in_err-mantissa-in-None.ensures.stop in
-    let first = subst (λ (exact : Bool). IsFirstFault exact
+    let first = subst (λ (exact : Bool). IsFirstNumberFault exact
     (number_digits s.whole.now s.fraction.now s.positive_exponent s.exponent.now) stop.0) (sym same) stop.1 in
     let k = c.spelling_at-spelling.ensures in
     let report = reports_fault text s.whole.now s.fraction.now s.exponent.now c.args.start s.end

@@ -3,7 +3,7 @@ use Rattle.jzon.specs.Entries.{entries_of}
 use Rattle.jzon.specs.PairList.{put}
 use Rattle.jzon.specs.Value.{object as seen, pairs_of}
 use Rattle.jzon.specs.View.{viewed}
-use Rattle.jzon_tools.specs.Pointer.{unescaped}
+use Rattle.jzon_tools.specs.Pointer.{token_key}
 use Rattle.jzon_tools.proofs.EditSteps.{member-new}
 use Rattle.jzon_tools.proofs.token.insert_member.Goals as goal
 
@@ -17,7 +17,7 @@ pub returns-in_ok-insert-in-Some-clause-ok : goal.returns-in_ok-insert-in-Some-c
 returns-in_ok-insert-in-Some-clause-ok c =
     let token = c.args.token.now in
     let key = string_bytes c.in-Some.key in
-    let named : unescaped token ≡ Some key = sym c.in_ok-key.ensures ∙ ap (option_map string_bytes) c.in-Some.is in
+    let named : token_key token ≡ Some key = sym c.in_ok-key.ensures ∙ ap (option_map string_bytes) c.in-Some.is in
     let put_there : entries_of c.insert-in-Some.new.self ≡ put key c.args.new (entries_of c.args.object.now) =
     c.in_ok-insert-in-Some.ensures.ok ∙ ap (λ k. put k c.args.new (entries_of c.args.object.now)) c.as_str.ensures.value in
     member-new c.args.object.now token c.args.new (Some key) named

@@ -1,7 +1,7 @@
 use Rattle.std.proofs.Common.{Some, ◌∷◌, [], ◌++◌, option_map, string_bytes, sym, ap, ◌∙◌, arith, rules}
 use Rattle.std.proofs.lemmas.Str.Pattern.{split_parts, strip_prefix_char}
 use Rattle.jzon_tools.specs.Pointer.{after_tilde}
-use Rattle.jzon_tools.proofs.TokenSteps.{escape-read, escape-refused, bad-escape, unescaped-plain}
+use Rattle.jzon_tools.proofs.TokenSteps.{escape-read, escape-refused, bad-escape, token_key-plain}
 use Rattle.jzon_tools.proofs.token.key_of.Goals as goal
 
 pub escapes-preserved-in-Some-strip_prefix : goal.escapes-preserved-in-Some-strip_prefix
@@ -47,4 +47,4 @@ returns c =
     let rest = c.escapes.rest.now in
     let lacks = rw c.in_default.is at (split_parts 126 rest c.split_once.result c.split_once.ensures.cases (omega arith)) in
     ap (λ bs. Some bs) c.in_ok-push_str-2.ensures.bytes
-    ∙ sym (c.escapes.invariant.0 ∙ ap (option_map (λ k. string_bytes c.escapes.key ++ k)) (unescaped-plain rest lacks))
+    ∙ sym (c.escapes.invariant.0 ∙ ap (option_map (λ k. string_bytes c.escapes.key ++ k)) (token_key-plain rest lacks))

@@ -1,7 +1,7 @@
 use Rattle.std.proofs.Common.{◌∙◌, Err, sym}
 use Rattle.std.proofs.KnownBytes.{Appends-kept}
 use Rattle.jzonfmt.specs.declared.engine.RunFault.TheVariants.{Write}
-use Rattle.jzonfmt.proofs.Added.{whole_beginning}
+use Rattle.jzonfmt.proofs.AddedBytes.{whole_beginning}
 use Rattle.jzonfmt.proofs.engine.drive.Goals as goal
 
 pub returns-in-Err-flush-clause-status : goal.returns-in-Err-flush-clause-status

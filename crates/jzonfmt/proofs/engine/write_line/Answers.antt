@@ -1,7 +1,7 @@
 use Rattle.std.proofs.Common.{[], ◌∷◌}
 use Rattle.jzon.specs.View.{view}
 use Rattle.jzonfmt.specs.Run.{text}
-use Rattle.jzonfmt.proofs.Added.{then_written}
+use Rattle.jzonfmt.proofs.AddedBytes.{then_written}
 use Rattle.jzonfmt.proofs.engine.write_line.Goals as goal
 
 pub returns : goal.returns

@@ -1,4 +1,4 @@
-use Rattle.jzonfmt.proofs.Added.{written}
+use Rattle.jzonfmt.proofs.AddedBytes.{written}
 use Rattle.jzonfmt.proofs.engine.write_text.Goals as goal
 
 pub returns-in-Compact : goal.returns-in-Compact

@@ -2,7 +2,7 @@ use Rattle.std.proofs.Common.{◌≡◌, None, Some, option_map, option_and_then
 use Rattle.jzon.specs.Entries.{entries_of}
 use Rattle.jzon.specs.Value.{object as seen, pairs_of}
 use Rattle.jzon.specs.View.{view, viewed}
-use Rattle.jzon_tools.specs.Pointer.{unescaped}
+use Rattle.jzon_tools.specs.Pointer.{token_key}
 use Rattle.jzon.specs.PairList.{find}
 use Rattle.jzon_tools.proofs.EditSteps.{member-removed}
 use Rattle.jzon_tools.proofs.NameSteps.{named-cut, named-entry, remove-past}
@@ -18,7 +18,7 @@ pub returns-in_err-position-clause-new : goal.returns-in_err-position-clause-new
 returns-in_err-position-clause-new c =
     let token = c.args.token.now in
     let es = entries_of c.args.object.now in
-    let there : option_and_then (λ k. find k es) (unescaped token) ≡ None =
+    let there : option_and_then (λ k. find k es) (token_key token) ≡ None =
     named-entry token es
     ∙ ap (λ i. option_map (λ p. p.1) (option_and_then (λ j. slice_get es j) i)) (sym c.in_err-position.ensures) in
     rw c.from_residual.ensures (member-removed c.args.object.now token None _ there refl)
@@ -33,7 +33,7 @@ pub returns-in_err-_key-clause-new : goal.returns-in_err-_key-clause-new
 returns-in_err-_key-clause-new c =
     let token = c.args.token.now in
     let es = entries_of c.args.object.now in
-    let there : option_and_then (λ k. find k es) (unescaped token) ≡ None =
+    let there : option_and_then (λ k. find k es) (token_key token) ≡ None =
     named-entry token es
     ∙ ap (λ i. option_map (λ p. p.1) (option_and_then (λ j. slice_get es j) i)) (sym c.in_ok-position.ensures)
     ∙ ap (option_map (λ p. p.1)) (sym c.in_err-_key.ensures.entry) in
@@ -56,7 +56,7 @@ returns-clause-new c =
     let es = entries_of c.args.object.now in
     let i = c.in_ok-position.position in
     let at = sym c.in_ok-position.ensures in
-    let there : option_and_then (λ k. find k es) (unescaped token) ≡ Some c.in_ok-_key.old =
+    let there : option_and_then (λ k. find k es) (token_key token) ≡ Some c.in_ok-_key.old =
     named-entry token es ∙ ap (λ i. option_map (λ p. p.1) (option_and_then (λ j. slice_get es j) i)) at
     ∙ ap (option_map (λ p. p.1)) (sym c.in_ok-_key.ensures.entry) in
     member-removed c.args.object.now token (Some c.in_ok-_key.old) _ there

@@ -2,7 +2,7 @@ use Rattle.jzon_base.proofs.Common.{ℕ, List, [], ◌+◌, refl, sym, map, leng
 use Rattle.jzon_base.proofs.Common.{take_all}
 use Rattle.jzon_tree.specs.declared.value.JsonValue.{the_lemmas}
 use Rattle.jzon_tree.specs.Entries.{entries_of}
-use Rattle.jzon_tree.specs.Generator.{IsKey, Just, positions}
+use Rattle.jzon_tree.specs.Generator.{IsPrintedKey, Just, positions}
 use Rattle.jzon_tree.specs.Lawful.{IsPair}
 use Rattle.jzon_tree.specs.Private.Printing.{IsEntry}
 use Rattle.jzon_tree.specs.Value.{Value}
@@ -93,14 +93,14 @@ write_pair-returns-in_err-try_write_key-clause-written g t c =
     let a = g.G.Generator.meaning c.args.g.now in
     let e : List ℕ × Value = (c.args.key.now, view c.args.value.now) in
     PrintsIf-at_err _ _ _ _ _ c.from_residual.ensures.0 (λ keyed. Stopped-failed _ _ _
-    (Failed-begins (IsKey a.style e.0) (IsEntry a.style a.dent e) _ _
+    (Failed-begins (IsPrintedKey a.style e.0) (IsEntry a.style a.dent e) _ _
     (after_key a.style a.dent e (g.met.G.Generator.style_law c.args.g.now) keyed) c.in_err-try_write_key.ensures.bytes))
 
 pub write_pair-returns-clause-written : goal.write_pair-returns-clause-written
 write_pair-returns-clause-written g t c =
     let a = g.G.Generator.meaning c.args.g.now in
     let e : List ℕ × Value = (c.args.key.now, view c.args.value.now) in
-    PrintsIf-after (IsKey a.style e.0) (λ s d. Writes s d e.1) (IsEntry a.style a.dent e) _ _ _
+    PrintsIf-after (IsPrintedKey a.style e.0) (λ s d. Writes s d e.1) (IsEntry a.style a.dent e) _ _ _
     (pair_value a.style a.dent e) c.in_ok-try_write_key.ensures.bytes _ _ c.write_value.ensures.written
 
 pub write_members-position_of-position-requires : goal.write_members-position_of-position-requires

@@ -1,5 +1,5 @@
 use Rattle.jzon_base.proofs.Common.{rules, ap, ◌∙◌, sym}
-use Rattle.jzon_tree.specs.Private.Buffered.{known_len, left}
+use Rattle.jzon_tree.specs.Private.Buffered.{known_len, untaken}
 use Rattle.jzon_tree.specs.View.{view}
 use Rattle.jzon_tree.specs.Writing.{Writes}
 use Rattle.jzon_tree.proofs.Printing.HeldBytes.{finished, sent_through}
@@ -11,7 +11,7 @@ returns-clause-writing g c =
     let n = c.finish-answer.new.self in
     let texts = Writes (g.L.Layout.style c.args.layout) 0 (view c.args.json.now) in
     rw (sym c.new-buffered.ensures.writer)
-    (sent_through texts g.S.Start.start b.inner.ghost_name n.inner.ghost_name (left b) (left n)
+    (sent_through texts g.S.Start.start b.inner.ghost_name n.inner.ghost_name (untaken b) (untaken n)
     c.new-buffered.ensures.bytes c.finish-answer.result _ (g.W.Write.contents n.inner.now) _
     (c.requires.start ∙ ap (λ w. known_len (g.W.Write.contents w)) (sym c.new-buffered.ensures.writer))
     (λ name. search rules) c.finish-answer.ensures.all

@@ -4,7 +4,7 @@ use Rattle.std.proofs.lemmas.List.{length-append}
 use Rattle.std.proofs.Math.Seq.{take-append-add, take-length}
 use Rattle.std.proofs.KnownBytes.{Appends-trans}
 use Rattle.std.specs.Io.KnownBytes.{Appends}
-use Rattle.jzon.specs.Written.{AppendsBeginning}
+use Rattle.jzon.specs.PartialWrites.{AppendsBeginning}
 use Rattle.jzonfmt.specs.Run.{WritesWhole}
 
 -- the whole is a prefix of itself
