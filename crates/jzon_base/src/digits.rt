@@ -226,7 +226,7 @@ fn first_too_many(whole: usize, gone: usize, held: usize) -> Option<usize>
     requires gone { gone ≤ whole }
     ensures some { IfSome result (λ i. (ws fs : List ℕ) → length ws ≡ whole → dropped ws fs ≡ gone
         → kept_fraction ws fs ≡ held → IsFirstTooMany ws fs i) }
-    ensures none { result ≡ None → (gone ≤ 32767) × (held ≤ 32768) }
+    ensures none { result ≡ None → (gone ≤ MAX_DROPPED) × (held ≤ MAX_KEPT_FRACTION) }
 {
     if gone > MAX_DROPPED {
         Some(whole - gone + MAX_DROPPED)
@@ -241,8 +241,8 @@ fn first_too_many(whole: usize, gone: usize, held: usize) -> Option<usize>
 /// clamped. `written` is empty if there is no exponent.
 fn clamped_exponent(dropped: usize, kept_fraction: usize, positive: bool, written: &[u8]) -> i16
     requires digits { All IsDigit written.now }
-    requires dropped { dropped ≤ 32767 }
-    requires kept { kept_fraction ≤ 32768 }
+    requires dropped { dropped ≤ MAX_DROPPED }
+    requires kept { kept_fraction ≤ MAX_KEPT_FRACTION }
     ensures { result ≡ clamp ((pos dropped -ℤ pos kept_fraction) +ℤ signed positive
         (digits_number written.now)) }
 {
@@ -262,8 +262,8 @@ fn clamped_exponent(dropped: usize, kept_fraction: usize, positive: bool, writte
 
 /// The greatest written exponent by which the exponent of the number isn't clamped.
 fn most_written(dropped: usize, kept_fraction: usize, positive: bool) -> u32
-    requires dropped { dropped ≤ 32767 }
-    requires kept { kept_fraction ≤ 32768 }
+    requires dropped { dropped ≤ MAX_DROPPED }
+    requires kept { kept_fraction ≤ MAX_KEPT_FRACTION }
     ensures small { result ≤ 65535 }
     ensures most { (m n : ℕ) → m ≢ 0 → is_out_of_range m
         ((pos dropped -ℤ pos kept_fraction) +ℤ signed positive n) ≡ nat_lt result n }

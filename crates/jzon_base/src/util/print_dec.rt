@@ -66,11 +66,11 @@ pub fn put_digits(
     exponent: i16,
 ) -> usize
     requires common { IsCommon mantissa exponent }
-    requires room { start + 48 ≤ length room.old }
+    requires room { start + DIGITS_ROOM ≤ length room.old }
     requires minus { slice_index room.old start ≡ 45 }
     ensures text { take result room.new
         ≡ take start room.old ++ number_text positive mantissa exponent }
-    ensures within { (start ≤ result) × (result ≤ start + 48) }
+    ensures within { (start ≤ result) × (result ≤ start + DIGITS_ROOM) }
     ensures len { length room.new ≡ length room.old }
 {
     let end = start + (usize::from(!positive) + (mantissa.ilog10() as usize + 1));

@@ -34,7 +34,7 @@ impl Buffer {
     /// How many more bytes there is room for.
     #[inline(always)]
     pub(super) fn free(&self) -> usize
-        ensures { result + self.now.len ≡ 1024 }
+        ensures { result + self.now.len ≡ BUFFER_LEN }
     {
         BUFFER_LEN - self.len
     }
@@ -49,7 +49,7 @@ impl Buffer {
     /// Adds bytes for which there is room.
     #[inline(always)]
     pub(super) fn add(&mut self, bytes: &[u8])
-        requires { self.old.len + length bytes.now ≤ 1024 }
+        requires { self.old.len + length bytes.now ≤ BUFFER_LEN }
         ensures items { buffer_items self.new ≡ buffer_items self.old ++ bytes.now }
         ensures len { self.new.len ≡ self.old.len + length bytes.now }
     {
