@@ -72,12 +72,13 @@ fn hides_member(object: &Object, index: usize, names: &[&str]) -> bool
         (slice_get (entries_of object.now) index) }
 {
     match object.get_index(index) {
-        Some((key, _)) => is_named(names, key),
+        Some((key, _)) => is_among(names, key),
         None => false,
     }
 }
 
-fn is_named(names: &[&str], key: &str) -> bool
+/// Whether a key is one of the names.
+pub(crate) fn is_among(names: &[&str], key: &str) -> bool
     ensures { result ≡ is_among (map (λ n. n.now) names.now) key.now }
 {
     names.iter().any(|name| *name == key)

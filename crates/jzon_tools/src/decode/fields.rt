@@ -14,6 +14,7 @@ ghost use Rattle.jzon_tools.specs.DecodeExpected.{Refuses};
 ghost use Rattle.jzon_tools.specs.Redact.{is_among};
 
 use super::{DecodeError, Expected, FromJson, Known};
+use crate::redact::is_among;
 use jzon::JsonValue;
 use jzon::object::Object;
 use std::alloc::Global;
@@ -224,10 +225,4 @@ fn unknown_key<'v>(object: &'v Object, names: &[&str]) -> Option<&'v str>
         (keys_of (entries_of object.now)) }
 {
     object.keys().find(|key| !is_among(names, key))
-}
-
-fn is_among(names: &[&str], key: &str) -> bool
-    ensures { result ≡ is_among (map (λ n. n.now) names.now) key.now }
-{
-    names.iter().any(|name| *name == key)
 }
