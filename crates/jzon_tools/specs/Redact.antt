@@ -1,5 +1,5 @@
 -- A value in which each member with one of some names is the string `***`, at any depth.
-use Rattle.std.specs.Prelude.{ℕ, List, Bool, false, Option, None, Some, codes, if◌then◌else◌}
+use Rattle.std.specs.Prelude.{ℕ, ◌+◌, List, Bool, false, Option, None, Some, codes, if◌then◌else◌}
 use Rattle.std.specs.List.{list_any}
 use Rattle.std.specs.Str.{bytes_eq}
 use Rattle.jzon.specs.Value.{Value, null, boolean, text, number, array, object, Values, no_values, value, ValuePairs}
@@ -42,3 +42,28 @@ abbrev mutual
 -- one member
 abbrev pub redacted_member : List (List ℕ) → List ℕ × Value → List ℕ × Value
 redacted_member names p = (p.0, if is_among names p.0 then hidden else redacted names p.1)
+
+abbrev mutual
+  -- how many entries are hidden: inside one that is hidden, no more are counted
+  pub hidden_count : List (List ℕ) → Value → ℕ
+  hidden_count names null = 0
+  hidden_count names (boolean b) = 0
+  hidden_count names (text k s) = 0
+  hidden_count names (number n) = 0
+  hidden_count names (array vs) = hidden_count_values names vs
+  hidden_count names (object ps) = hidden_count_pairs names ps
+
+  -- the same of elements
+  pub hidden_count_values : List (List ℕ) → Values → ℕ
+  hidden_count_values names no_values = 0
+  hidden_count_values names (value v vs) = hidden_count names v + hidden_count_values names vs
+
+  -- the same of entries
+  pub hidden_count_pairs : List (List ℕ) → ValuePairs → ℕ
+  hidden_count_pairs names no_pairs = 0
+  hidden_count_pairs names (pair k v ps) =
+      (if is_among names k then 1 else hidden_count names v) + hidden_count_pairs names ps
+
+-- the same of one member
+abbrev pub hidden_count_member : List (List ℕ) → List ℕ × Value → ℕ
+hidden_count_member names p = if is_among names p.0 then 1 else hidden_count names p.1

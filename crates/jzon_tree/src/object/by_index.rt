@@ -34,7 +34,7 @@ impl Object {
     /// for index in 0..object.len() {
     ///     let hides = hides_member(object, index, names);
     ///     if let Some(value) = object.get_index_mut(index) {
-    ///         redact_member(value, hides, names);
+    ///         count = count.saturating_add(redact_member(value, hides, names));
     ///     }
     /// }
     /// ```
