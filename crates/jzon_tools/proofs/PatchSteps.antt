@@ -1,19 +1,14 @@
--- The steps of a patch: where a pointer names nothing, nothing can be changed; and the operations that are left.
+-- The steps of a patch: where a pointer names nothing, nothing can be changed.
 use Rattle.std.proofs.Common.{◌≡◌, ℕ, suc, ◌+◌, length, List, [], ◌∷◌, Option, None, Some, option_map, option_and_then, Ok, Err}
-use Rattle.std.proofs.Common.{refl, ap, ◌∙◌}
+use Rattle.std.proofs.Common.{refl, ap}
 use Rattle.std.specs.Option.{ok_or}
-use Rattle.jzon.specs.JsonValue.{JsonValue}
 use Rattle.jzon.specs.PairList.{find, cut}
 use Rattle.std.proofs.Common.{slice_get}
 use Rattle.std.specs.List.{remove}
 use Rattle.jzon.specs.Value.{Value, null, boolean, text, number, array, object, values_of, pairs_of, list_of_values, list_of_pairs}
-use Rattle.jzon.specs.View.{view, view_values}
-use Rattle.jzon_tools.specs.Patch.{operated, applied_each}
 use Rattle.jzon_tools.specs.Pointer.{index_named, token_key, child_of, with_child, missing, tokens_of, found, and_then, value_at, entry_at, updated, updated_at, changed, without, removed_at}
 use Rattle.jzon_tools.specs.declared.pointer.PointerError.{PointerError}
 use Rattle.jzon_tools.specs.declared.pointer.PointerError.TheVariants.{NoSlash}
-
--- ---- what names nothing
 
 updated-missing_by : (f : Value → Option Value) (o : Option Value) (j : ℕ) (v : Value) (t : List ℕ) (ts : List (List ℕ))
     (x e : PointerError) → ((c : Value) → found j c ts ≡ Err e → updated f c ts ≡ None)
@@ -81,15 +76,3 @@ removed-nowhere_by (Some ts) v e h = removed-missing ts 1 v e h
 pub removed-nowhere : (v : Value) (path : List ℕ) (e : PointerError) → entry_at v path ≡ Err e → removed_at v path ≡ None
 removed-nowhere v [] e h = refl
 removed-nowhere v (c ∷ cs) e h = removed-nowhere_by (tokens_of (c ∷ cs)) v e h
-
--- ---- the operations that are left
-
-pub applied-next : (ops rest : List JsonValue) (op : JsonValue) (v w : Value) → ops ≡ op ∷ rest
-    → operated (view op) v ≡ Some w → applied_each (view_values ops) v ≡ applied_each (view_values rest) w
-applied-next ops rest op v w is done =
-    ap (λ xs. applied_each (view_values xs) v) is ∙ ap (option_and_then (applied_each (view_values rest))) done
-
-pub applied-stopped : (ops rest : List JsonValue) (op : JsonValue) (v : Value) → ops ≡ op ∷ rest
-    → operated (view op) v ≡ None → applied_each (view_values ops) v ≡ None
-applied-stopped ops rest op v is none =
-    ap (λ xs. applied_each (view_values xs) v) is ∙ ap (option_and_then (applied_each (view_values rest))) none

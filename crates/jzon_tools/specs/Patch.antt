@@ -1,7 +1,8 @@
 -- What a patch makes of a value (RFC 6902).
-use Rattle.std.specs.Prelude.{ℕ, List, [], ◌∷◌, length, nat_lt, ◌==◌, ◌&&◌, slice_index, nat_eq, Bool, codes, if◌then◌else◌}
+use Rattle.std.specs.Prelude.{ℕ, suc, List, [], ◌∷◌, length, nat_lt, ◌==◌, ◌&&◌, slice_index, nat_eq, Bool, codes, if◌then◌else◌}
 use Rattle.std.specs.Prelude.{◌≡◌, ◌⊎◌, Result, Ok, Err, Option, None, Some, option_and_then, option_map}
 use Rattle.std.specs.List.{starts_with}
+use Rattle.std.specs.Option.{option_map_or}
 use Rattle.std.specs.Result.{result_ok}
 use Rattle.std.specs.Str.{bytes_eq}
 use Rattle.jzon.specs.PairList.{find}
@@ -95,6 +96,16 @@ applied_each (value op ops) v = option_and_then (applied_each ops) (operated op 
 abbrev pub applied : Value → Value → Option Value
 applied (array ops) v = applied_each ops v
 applied _ v = None
+
+-- the number, counted from i, of the first of these operations that can't be done on what those before it make of v
+abbrev pub undone_at : ℕ → Values → Value → Option ℕ
+undone_at i no_values v = None
+undone_at i (value op ops) v = option_map_or (undone_at (suc i) ops) (operated op v) (Some i)
+
+-- the number of the first operation of a patch that can't be done, from 0; none if there is none, or it is no array
+abbrev pub first_undone : Value → Value → Option ℕ
+first_undone (array ops) v = undone_at 0 ops v
+first_undone _ v = None
 
 -- ---- what a step returns
 

@@ -1,16 +1,17 @@
 //! JSON Patch (RFC 6902): a list of operations that add, remove, replace, move, copy and test what
 //! JSON pointers name.
 //!
-//! `applied` of specs/Patch.antt says what a patch makes of a value. The operations change the value
-//! itself. It is cloned before the first operation that may have to be undone, and the clone is put
-//! back after an error: tests change nothing, and of the others each but a move fails without a
-//! change, so no clone is made before the last operation.
+//! `applied` of specs/Patch.antt says what a patch makes of a value, and `first_undone` which
+//! operation an error names. The operations change the value itself. It is cloned before the first
+//! operation that may have to be undone, and the clone is put back after an error: tests change
+//! nothing, and of the others each but a move fails without a change, so no clone is made before the
+//! last operation.
 
 ghost use Rattle.std.specs.Prelude.{◌≡◌, ◌⊎◌, OnOk, OnErr, IfOk, IfErr, None, Some, false, option_map};
 ghost use Rattle.std.specs.IoError.{error_kind};
 ghost use Rattle.jzon.specs.View.{view};
 ghost use Rattle.jzon_tools.specs.ErrorTexts.{cause_text, patch_error_kind, patch_error_text, shown_text};
-ghost use Rattle.jzon_tools.specs.Patch.{added_at, applied, entry_of, is_below, moved_at, operated, operated_by, tested_at, text_at, value_of, IsBackup, IsDone};
+ghost use Rattle.jzon_tools.specs.Patch.{added_at, applied, entry_of, first_undone, is_below, moved_at, operated, operated_by, tested_at, text_at, value_of, IsBackup, IsDone};
 ghost use Rattle.jzon_tools.specs.Patch as meaning;
 ghost use Rattle.jzon_tools.specs.Pointer.{removed_at, updated_at};
 ghost use Rattle.jzon_tools.specs.declared.patch.Cause.TheVariants.{OutOfMemory};
@@ -26,7 +27,7 @@ use std::{fmt, io};
 /// Why a patch wasn't applied.
 #[derive(Clone, Copy, Debug, PartialEq, Eq)]
 pub struct PatchError {
-    /// The number of the operation, from 0. `None` if no operation is the cause.
+    /// The number of the operation that can't be done, from 0. `None` if the patch isn't an array.
     pub operation: Option<usize>,
     pub cause: Cause,
 }
@@ -162,6 +163,8 @@ pub fn apply(alloc: Global, value: &mut JsonValue, patch: &JsonValue) -> Result<
     ensures err { OnErr result (view value.new ≡ view value.old) }
     ensures error { IfErr result (λ e. (e.cause ≡ OutOfMemory)
         ⊎ (applied (view patch.now) (view value.old) ≡ None)) }
+    ensures operation { IfErr result (λ e. (e.cause ≡ OutOfMemory)
+        ⊎ (e.operation ≡ first_undone (view patch.now) (view value.old))) }
 {
     let JsonValue::Array(operations) = patch else {
         return Err(PatchError {
