@@ -1,18 +1,17 @@
 -- The pointer of an error of a reading, with a step before it.
-use Rattle.std.proofs.Common.{◌≡◌, ◌≢◌, ◌<◌, ◌^◌, ℕ, zero, suc, List, [], ◌∷◌, ◌++◌, length, get_or, Bool, true, false, ◌==◌, if◌then◌else◌}
-use Rattle.std.proofs.Common.{Option, None, Some, option_map, option_and_then, slice_get, Result, Ok, Err, string_bytes}
-use Rattle.std.proofs.Common.{refl, sym, ap, ◌∙◌, subst, arith, append_assoc, append-nil}
-use Rattle.std.proofs.lemmas.Bool.Decides.{nat_tests}
+use Rattle.std.proofs.Common.{◌≡◌, ℕ, List, [], ◌∷◌, ◌++◌, Bool, true, false, ◌==◌, if◌then◌else◌}
+use Rattle.std.proofs.Common.{Option, None, Some, option_and_then, Result, Ok, Err, string_bytes}
+use Rattle.std.proofs.Common.{refl, sym, ap, ◌∙◌, subst, append_assoc, append-nil}
 use Rattle.std.specs.Option.{ok_or}
 use Rattle.std.specs.Result.{result_ok}
 use Rattle.std.specs.declared.alloc.Global.{Global}
 use Rattle.std.specs.declared.string.String.{String}
 use Rattle.jzon.specs.PairList.{find}
-use Rattle.jzon.specs.Readers.{entries, is_object}
+use Rattle.jzon.specs.Readers.{entries}
 use Rattle.jzon.specs.Value.{Value, null, boolean, text, number, array, object, list_of_pairs}
 use Rattle.jzon_tools.specs.Decode.{IsErrorIn, moved_to, pointer_of}
 use Rattle.jzon_tools.specs.Escaped.{escaped}
-use Rattle.jzon_tools.specs.Pointer.{and_then, child_of, found, tokens_in, tokens_of, token_key, value_at}
+use Rattle.jzon_tools.specs.Pointer.{and_then, child_of, found, tokens_in, tokens_of, value_at}
 use Rattle.jzon_tools.specs.declared.decode.error.DecodeError.{DecodeError}
 use Rattle.jzon_tools.specs.declared.decode.error.DecodeError.TheVariants.{Text, OutOfMemory, Wrong, Missing, Unknown}
 use Rattle.jzon_tools.specs.declared.pointer.PointerError.{PointerError}

@@ -1,5 +1,5 @@
 -- What an error of a reading says is expected. Of the words of a caller's own test nothing is known.
-use Rattle.std.specs.Prelude.{◌≡◌, ◌<◌, ◌^◌, ⊤, FitsSigned, None, false, true}
+use Rattle.std.specs.Prelude.{◌≡◌, ◌<◌, ◌^◌, ⊤, FitsSigned, None, false}
 use Rattle.std.specs.Int.{w8, w16, w32, w64}
 use Rattle.jzon.specs.Decimal.{SomeWhere}
 use Rattle.jzon.specs.Readers.{count, exact_fixed_point_in, integer_in, is_array, is_object, number_in, text_in, truth_in, unsigned_in}

@@ -1,5 +1,5 @@
 -- What `Display` shows of an error of a reading, and its kind as an `io::Error` (docs/TOOLS.md).
-use Rattle.std.specs.Prelude.{ℕ, List, [], ◌∷◌, ◌++◌, ◌/◌, ◌%◌, Bool, ◌&&◌, ◌||◌, ◌==◌, nat_lt, nat_le, true, false, if◌then◌else◌}
+use Rattle.std.specs.Prelude.{ℕ, List, [], ◌∷◌, ◌++◌, ◌/◌, ◌%◌, Bool, ◌&&◌, ◌||◌, ◌==◌, nat_lt, nat_le, if◌then◌else◌}
 use Rattle.std.specs.Prelude.{chars, codes, decimal, encode_utf8, flat_map, length, map, string_bytes}
 use Rattle.std.specs.Char.{digit_char}
 use Rattle.std.specs.declared.io.ErrorKind.{ErrorKind}

@@ -2,8 +2,7 @@
 //! what was expected, and what is there.
 //!
 //! An error names its place by a JSON pointer. Nobody hands a path down: a reader knows only its own
-//! value, and the readers of containers put the key or the index before the pointer of an error that
-//! comes up. So a reading that succeeds allocates only what it returns.
+//! value, and those of containers put the key or index before the pointer of an error that comes up.
 
 ghost use Rattle.std.specs.Prelude.{chars, IfOk, IfErr};
 ghost use Rattle.jzon.specs.Value.{Value};

@@ -232,8 +232,7 @@ fn describe_string(alloc: Global, text: &str) -> Result<Found, AllocError>
     Ok(Found::String(String::from_str(alloc, text)?))
 }
 
-/// One line, in which control characters and those from U+007F to U+009F are escaped. Widths and
-/// other flags are ignored.
+/// One line, in which control characters and U+007F to U+009F are escaped. Flags are ignored.
 impl fmt::Display for DecodeError {
     ghost output = { λ e. Some (decode_error_text e) };
 
@@ -365,8 +364,7 @@ impl<T: Drop> From<AllocFailed<T>> for DecodeError {
 }
 
 /// So that `?` works in a `main` that returns an `io::Result`. The kind is that of the text's error,
-/// `OutOfMemory`, or else `InvalidData`. The message is what `Display` prints, as far as 80 bytes
-/// hold it: of a long one the pointer is kept, and its end is left out.
+/// `OutOfMemory`, or `InvalidData`. Of a message above 80 bytes the end is left out.
 impl From<DecodeError> for io::Error {
     ghost from_gives = { λ e i. error_kind i ≡ decode_error_kind e };
 

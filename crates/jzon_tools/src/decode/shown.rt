@@ -18,8 +18,7 @@ pub fn show_place<W: fmt::Write>(f: &mut fmt::Formatter<W>, pointer: &str) -> fm
     f.write_str(": ")
 }
 
-/// The text without quotes, in which control characters and those from U+007F to U+009F are escaped
-/// as in JSON.
+/// The text without quotes, control characters and U+007F to U+009F escaped as in JSON.
 pub fn show_text<W: fmt::Write>(f: &mut fmt::Formatter<W>, text: &str) -> fmt::Result
     ensures { WritesOnOk W.write_str_gives f.old result (shown_text text.now) f.new }
 {

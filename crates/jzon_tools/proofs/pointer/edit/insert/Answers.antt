@@ -1,13 +1,10 @@
-use Rattle.std.proofs.Common.{◌≡◌, None, Some, inr, refl, arith, rules}
+use Rattle.std.proofs.Common.{◌≡◌, None, Some, inr, refl, rules}
 use Rattle.std.proofs.lemmas.Result.{err_from_is_err_and}
-use Rattle.std.specs.Option.{option_copied}
 use Rattle.jzon.specs.View.{view}
-use Rattle.jzon_tools.specs.Pointer.{tokens_left, with_new}
+use Rattle.jzon_tools.specs.Pointer.{with_new}
 use Rattle.jzon_tools.proofs.ChangeLaws.{changes-kept}
 use Rattle.jzon_tools.proofs.EditSteps.{no_new-no_child}
-use Rattle.jzon_tools.proofs.LastSteps.{is-last, inserted, not_inserted, inserted-nowhere, nothing-there, nowhere, entry-missing}
-use Rattle.jzon_tools.proofs.LastSteps.{lacks-slash, no_slash-insert}
-use Rattle.jzon_tools.proofs.TokenSteps.{last-parts}
+use Rattle.jzon_tools.proofs.LastSteps.{inserted, not_inserted, inserted-nowhere, nothing-there, nowhere, entry-missing}
 use Rattle.jzon_tools.proofs.pointer.edit.insert.Goals as goal
 
 pub returns-in-Some-Ok-true-clause-ok : goal.returns-in-Some-Ok-true-clause-ok

@@ -1,9 +1,7 @@
-use Rattle.std.proofs.Common.{◌≡◌, None, option_map, refl, sym, ap, ◌∙◌, arith, rules}
-use Rattle.std.specs.Option.{option_copied}
+use Rattle.std.proofs.Common.{◌≡◌, None, option_map, refl, sym, ap, ◌∙◌, rules}
 use Rattle.jzon.specs.View.{view}
-use Rattle.jzon_tools.specs.Pointer.{child_of, tokens_left, without}
-use Rattle.jzon_tools.proofs.LastSteps.{is-last, entry-found, removed, nothing-there, nowhere, entry-missing, lacks-slash}
-use Rattle.jzon_tools.proofs.TokenSteps.{last-parts}
+use Rattle.jzon_tools.specs.Pointer.{child_of, without}
+use Rattle.jzon_tools.proofs.LastSteps.{entry-found, removed, nothing-there, nowhere, entry-missing}
 use Rattle.jzon_tools.proofs.pointer.edit.remove.Goals as goal
 
 pub returns-in-Some-Some-clause-old : goal.returns-in-Some-Some-clause-old

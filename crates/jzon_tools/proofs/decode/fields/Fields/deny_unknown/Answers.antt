@@ -1,4 +1,4 @@
-use Rattle.std.proofs.Common.{◌≡◌, map, not, Some, None, refl, sym, ap, ◌∙◌}
+use Rattle.std.proofs.Common.{map, not, refl, sym, ap, ◌∙◌}
 use Rattle.std.specs.List.{find as first}
 use Rattle.jzon.specs.PairList.{keys_of}
 use Rattle.jzon.specs.Readers.{entries}
