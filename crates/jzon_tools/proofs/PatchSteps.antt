@@ -76,3 +76,12 @@ removed-nowhere_by (Some ts) v e h = removed-missing ts 1 v e h
 pub removed-nowhere : (v : Value) (path : List ℕ) (e : PointerError) → entry_at v path ≡ Err e → removed_at v path ≡ None
 removed-nowhere v [] e h = refl
 removed-nowhere v (c ∷ cs) e h = removed-nowhere_by (tokens_of (c ∷ cs)) v e h
+
+pub entry-nowhere : (v : Value) (path : List ℕ) (e : PointerError) → value_at v path ≡ Err e → entry_at v path ≡ Err e
+entry-nowhere v [] e h = absurd (cc)
+entry-nowhere v (c ∷ cs) e h = h
+
+-- the empty pointer leads to the whole value
+pub whole-found : (v : Value) (path : List ℕ) (e : PointerError) → value_at v path ≡ Err e → path ≡ [] → ⊥
+whole-found v [] e h none = cc
+whole-found v (c ∷ cs) e h none = cc

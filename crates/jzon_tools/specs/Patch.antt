@@ -1,17 +1,18 @@
 -- What a patch makes of a value (RFC 6902).
-use Rattle.std.specs.Prelude.{ℕ, suc, List, [], ◌∷◌, length, nat_lt, ◌==◌, ◌&&◌, slice_index, nat_eq, Bool, codes, if◌then◌else◌}
-use Rattle.std.specs.Prelude.{◌≡◌, ◌⊎◌, Result, Ok, Err, Option, None, Some, option_and_then, option_map}
+use Rattle.std.specs.Prelude.{ℕ, suc, List, [], ◌∷◌, length, nat_lt, ◌==◌, ◌&&◌, slice_index, nat_eq, Bool, false, true, codes, if◌then◌else◌}
+use Rattle.std.specs.Prelude.{◌≡◌, ◌⊎◌, ⊤, Result, Ok, Err, Option, None, Some, option_and_then, option_map}
 use Rattle.std.specs.List.{starts_with}
 use Rattle.std.specs.Option.{option_map_or}
 use Rattle.std.specs.Result.{result_ok}
 use Rattle.std.specs.Str.{bytes_eq}
 use Rattle.jzon.specs.PairList.{find}
-use Rattle.jzon.specs.Readers.{entries, text_in}
+use Rattle.jzon.specs.Readers.{entries, is_object, text_in}
 use Rattle.jzon.specs.Same.{same}
 use Rattle.jzon.specs.Value.{Value, array, Values, no_values, value}
 use Rattle.jzon_tools.specs.Pointer.{value_at, entry_at, inserted_at, removed_at, updated_at}
 use Rattle.jzon_tools.specs.declared.patch.Cause.{Cause}
-use Rattle.jzon_tools.specs.declared.patch.Cause.TheVariants.{OutOfMemory}
+use Rattle.jzon_tools.specs.declared.patch.Cause.TheVariants.{NotAnArray, NotAnObject, Missing, NotAString, UnknownOp}
+use Rattle.jzon_tools.specs.declared.patch.Cause.TheVariants.{Pointer, TestFailed, IntoItself, OutOfMemory}
 use Rattle.jzon_tools.specs.declared.patch.Op.{Op}
 use Rattle.jzon_tools.specs.declared.patch.Op.TheVariants.{Add, Remove, Replace, Move, Copy, Test}
 
@@ -97,15 +98,103 @@ abbrev pub applied : Value → Value → Option Value
 applied (array ops) v = applied_each ops v
 applied _ v = None
 
--- the number, counted from i, of the first of these operations that can't be done on what those before it make of v
-abbrev pub undone_at : ℕ → Values → Value → Option ℕ
-undone_at i no_values v = None
-undone_at i (value op ops) v = option_map_or (undone_at (suc i) ops) (operated op v) (Some i)
+-- an operation that can't be done, its number, and the value before it
+pub record Undone : Type 0 where
+  pub number : ℕ
+  pub operation : Value
+  pub before : Value
 
--- the number of the first operation of a patch that can't be done, from 0; none if there is none, or it is no array
-abbrev pub first_undone : Value → Value → Option ℕ
+-- the first of these operations, numbered from i on, that can't be done on what those before it make of v
+abbrev pub undone_at : ℕ → Values → Value → Option Undone
+undone_at i no_values v = None
+undone_at i (value op ops) v =
+    option_map_or (undone_at (suc i) ops) (operated op v) (Some (record { number = i; operation = op; before = v }))
+
+-- the first operation of a patch that can't be done, numbered from 0; none if there is none, or it is no array
+abbrev pub first_undone : Value → Value → Option Undone
 first_undone (array ops) v = undone_at 0 ops v
 first_undone _ v = None
+
+-- ---- why an operation can't be done
+
+-- whether an operation with this meaning has a member `from`
+abbrev pub has_from : Op → Bool
+has_from Move = true
+has_from Copy = true
+has_from _ = false
+
+-- whether it has a member `value`
+abbrev pub has_value : Op → Bool
+has_value Add = true
+has_value Replace = true
+has_value Test = true
+has_value _ = false
+
+-- k names a pointer of the operation: its `path`, or its `from`
+abbrev pub IsPointer : List ℕ → Value → Type 0
+IsPointer k op = (k ≡ codes "path") ⊎ ((k ≡ codes "from") × (option_map has_from (op_of op) ≡ Some true))
+
+-- k names a member that has to be a string: `op`, or a pointer
+abbrev pub IsText : List ℕ → Value → Type 0
+IsText k op = (k ≡ codes "op") ⊎ IsPointer k op
+
+-- k names a member that there has to be: such a string, or `value`
+abbrev pub IsNeeded : List ℕ → Value → Type 0
+IsNeeded k op = IsText k op ⊎ ((k ≡ codes "value") × (option_map has_value (op_of op) ≡ Some true))
+
+-- whether an operation's meaning is a move
+abbrev pub is_move : Option Op → Bool
+is_move (Some Move) = true
+is_move _ = false
+
+-- the value in which the operation looks up its pointer k, if v is the one before it: v, or for the `path` of a move v
+-- without what is at `from`
+abbrev pub looked_in : List ℕ → Value → Value → Option Value
+looked_in k op v =
+    if is_move (op_of op) && bytes_eq k (codes "path") then option_and_then (removed_at v) (text_at (codes "from") op)
+    else Some v
+
+-- the operation's pointer k is this path, and is looked up in u, if v is the value before the operation
+pub record IsLookup (k path : List ℕ) (u op v : Value) : Type 0 where
+  pub pointer : IsPointer k op
+  pub text : text_at k op ≡ Some path
+  pub place : looked_in k op v ≡ Some u
+
+-- the operation takes away what its pointer k names, which the whole value, at the empty pointer, can't be
+abbrev pub Takes : List ℕ → Value → Type 0
+Takes k op = (op_of op ≡ Some Remove) ⊎ ((op_of op ≡ Some Move) × (k ≡ codes "from"))
+
+-- the operation is a test, and the value x at `path` isn't the wanted one, w
+abbrev pub TestFails : Value → Value → Type 0
+TestFails op v =
+    (op_of op ≡ Some Test) × (path : List ℕ) × (x : Value) × (w : Value) × (text_at (codes "path") op ≡ Some path)
+    × (value_of v path ≡ Some x) × (operand op ≡ Some w) × (same x w ≡ false)
+
+-- the operation is a move, and `path` leads into what `from` names
+abbrev pub MovesIntoItself : Value → Type 0
+MovesIntoItself op =
+    (op_of op ≡ Some Move) × (path : List ℕ) × (from : List ℕ) × (text_at (codes "path") op ≡ Some path)
+    × (text_at (codes "from") op ≡ Some from) × (is_below path from ≡ true)
+
+-- this is why an operation can't be done, if v is the value before it; memory may be refused at any
+abbrev pub IsCause : Cause → Value → Value → Type 0
+IsCause NotAnArray op v = ⊥
+IsCause NotAnObject op v = is_object op ≡ false
+IsCause (Missing name) op v = IsNeeded name.now op × (find name.now (entries op) ≡ None)
+IsCause (NotAString name) op v =
+    IsText name.now op × (w : Value) × (find name.now (entries op) ≡ Some w) × (text_in w ≡ None)
+IsCause UnknownOp op v = (s : List ℕ) × (text_at (codes "op") op ≡ Some s) × (op_named s ≡ None)
+IsCause (Pointer name error) op v =
+    (path : List ℕ) × (u : Value) × IsLookup name.now path u op v × (entry_at u path ≡ Err error)
+    × (path ≡ [] → Takes name.now op)
+IsCause TestFailed op v = TestFails op v
+IsCause IntoItself op v = MovesIntoItself op
+IsCause OutOfMemory op v = ⊤
+
+-- this is why a patch isn't applied: why its first operation that can't be done isn't, or that it is no array
+abbrev pub IsCauseOf : Option Undone → Cause → Type 0
+IsCauseOf None c = c ≡ NotAnArray
+IsCauseOf (Some u) c = IsCause c u.operation u.before
 
 -- ---- what a step returns
 

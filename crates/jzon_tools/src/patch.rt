@@ -1,19 +1,20 @@
 //! JSON Patch (RFC 6902): a list of operations that add, remove, replace, move, copy and test what
 //! JSON pointers name.
 //!
-//! `applied` of specs/Patch.antt says what a patch makes of a value, and `first_undone` which
-//! operation an error names. The operations change the value itself. It is cloned before the first
-//! operation that may have to be undone, and the clone is put back after an error: tests change
-//! nothing, and of the others each but a move fails without a change, so no clone is made before the
-//! last operation.
+//! `applied` of specs/Patch.antt says what a patch makes of a value, `first_undone` which operation
+//! an error names, and `IsCause` when each cause comes. The operations change the value itself. It is
+//! cloned before the first operation that may have to be undone, and the clone is put back after an
+//! error: tests change nothing, and of the others each but a move fails without a change, so no clone
+//! is made before the last operation.
 
-ghost use Rattle.std.specs.Prelude.{◌≡◌, ◌⊎◌, OnOk, OnErr, IfOk, IfErr, None, Some, false, option_map};
+ghost use Rattle.std.specs.Prelude.{◌≡◌, ◌⊎◌, ℕ, List, [], OnOk, OnErr, IfOk, IfErr, Err, None, Some, false, true, codes, option_map};
 ghost use Rattle.std.specs.IoError.{error_kind};
+ghost use Rattle.jzon.specs.Value.{Value};
 ghost use Rattle.jzon.specs.View.{view};
 ghost use Rattle.jzon_tools.specs.ErrorTexts.{cause_text, patch_error_kind, patch_error_text, shown_text};
-ghost use Rattle.jzon_tools.specs.Patch.{added_at, applied, entry_of, first_undone, is_below, moved_at, operated, operated_by, tested_at, text_at, value_of, IsBackup, IsDone};
+ghost use Rattle.jzon_tools.specs.Patch.{added_at, applied, entry_of, first_undone, has_value, is_below, moved_at, operated, operated_by, tested_at, text_at, value_of, IsBackup, IsCause, IsCauseOf, IsDone, IsLookup, IsText, Takes};
 ghost use Rattle.jzon_tools.specs.Patch as meaning;
-ghost use Rattle.jzon_tools.specs.Pointer.{removed_at, updated_at};
+ghost use Rattle.jzon_tools.specs.Pointer.{entry_at, removed_at, updated_at};
 ghost use Rattle.jzon_tools.specs.declared.patch.Cause.TheVariants.{OutOfMemory};
 ghost use Rattle.jzon_tools.specs.declared.patch.Op.TheVariants as ops;
 ghost use Rattle.jzon_tools.specs.declared.pointer.PointerError.TheVariants as pointers;
@@ -164,7 +165,10 @@ pub fn apply(alloc: Global, value: &mut JsonValue, patch: &JsonValue) -> Result<
     ensures error { IfErr result (λ e. (e.cause ≡ OutOfMemory)
         ⊎ (applied (view patch.now) (view value.old) ≡ None)) }
     ensures operation { IfErr result (λ e. (e.cause ≡ OutOfMemory)
-        ⊎ (e.operation ≡ first_undone (view patch.now) (view value.old))) }
+        ⊎ (e.operation ≡ option_map (λ u. u.number)
+        (first_undone (view patch.now) (view value.old)))) }
+    ensures cause { IfErr result (λ e. (e.cause ≡ OutOfMemory)
+        ⊎ IsCauseOf (first_undone (view patch.now) (view value.old)) e.cause) }
 {
     let JsonValue::Array(operations) = patch else {
         return Err(PatchError {
@@ -202,6 +206,7 @@ fn step(
         (option_map view backup.new) }
     ensures err { backup.new ≡ None → OnErr result (view value.new ≡ view value.old) }
     ensures kept { backup.new ≡ None → is_last ≡ false → view value.new ≡ view value.old }
+    ensures cause { IfErr result (λ e. IsCause e (view operation.now) (view value.old)) }
 {
     let op = op_of(operation)?;
     let path = text(operation, "path")?;
@@ -219,6 +224,7 @@ fn step(
 fn op_of(operation: &JsonValue) -> Result<Op, Cause>
     ensures ok { IfOk result (λ op. meaning.op_of (view operation.now) ≡ Some op) }
     ensures err { OnErr result (meaning.op_of (view operation.now) ≡ None) }
+    ensures cause { (v : Value) → IfErr result (λ e. IsCause e (view operation.now) v) }
 {
     if !operation.is_object() {
         return Err(Cause::NotAnObject);
@@ -236,8 +242,10 @@ fn op_of(operation: &JsonValue) -> Result<Op, Cause>
 
 /// The text of a member.
 fn text<'a>(operation: &'a JsonValue, name: &'static str) -> Result<&'a str, Cause>
+    requires { IsText name.now (view operation.now) }
     ensures ok { IfOk result (λ text. text_at name.now (view operation.now) ≡ Some text.now) }
     ensures err { OnErr result (text_at name.now (view operation.now) ≡ None) }
+    ensures cause { (v : Value) → IfErr result (λ e. IsCause e (view operation.now) v) }
 {
     let member = operation.get(name).ok_or(Cause::Missing(name))?;
     member.as_str().ok_or(Cause::NotAString(name))
@@ -245,8 +253,10 @@ fn text<'a>(operation: &'a JsonValue, name: &'static str) -> Result<&'a str, Cau
 
 /// The member `value`.
 fn operand(operation: &JsonValue) -> Result<&JsonValue, Cause>
+    requires { option_map has_value (meaning.op_of (view operation.now)) ≡ Some true }
     ensures ok { IfOk result (λ v. meaning.operand (view operation.now) ≡ Some (view v.now)) }
     ensures err { OnErr result (meaning.operand (view operation.now) ≡ None) }
+    ensures cause { (v : Value) → IfErr result (λ e. IsCause e (view operation.now) v) }
 {
     operation.get("value").ok_or(Cause::Missing("value"))
 }
@@ -259,10 +269,13 @@ fn operate(
     path: &str,
     operation: &JsonValue,
 ) -> Result<(), Cause>
+    requires op { meaning.op_of (view operation.now) ≡ Some op }
+    requires path { text_at (codes "path") (view operation.now) ≡ Some path.now }
     ensures done { IsDone (operated_by op path.now (view operation.now) (view value.old))
         (view value.new) result }
     ensures err { (op ≡ ops.Move → ⊥) → OnErr result (view value.new ≡ view value.old) }
     ensures kept { op ≡ ops.Test → view value.new ≡ view value.old }
+    ensures cause { IfErr result (λ e. IsCause e (view operation.now) (view value.old)) }
 {
     match op {
         Op::Add => put(alloc, value, path, cloned(alloc, operand(operation)?)?),
@@ -292,7 +305,9 @@ fn cloned(alloc: Global, value: &JsonValue) -> Result<JsonValue, Cause>
 }
 
 fn at(name: &'static str, error: PointerError) -> Cause
-    ensures { error ≡ pointers.OutOfMemory → result ≡ OutOfMemory }
+    ensures memory { error ≡ pointers.OutOfMemory → result ≡ OutOfMemory }
+    ensures cause { (path : List ℕ) (u op v : Value) → IsLookup name.now path u op v
+        → entry_at u path ≡ Err error → (path ≡ [] → Takes name.now op) → IsCause result op v }
 {
     match error {
         PointerError::OutOfMemory => Cause::OutOfMemory,
@@ -304,6 +319,8 @@ fn at(name: &'static str, error: PointerError) -> Cause
 fn look<'a>(value: &'a JsonValue, name: &'static str, path: &str) -> Result<&'a JsonValue, Cause>
     ensures ok { IfOk result (λ v. value_of (view value.now) path.now ≡ Some (view v.now)) }
     ensures err { OnErr result (value_of (view value.now) path.now ≡ None) }
+    ensures cause { (op v : Value) → IsLookup name.now path.now (view value.now) op v
+        → IfErr result (λ e. IsCause e op v) }
 {
     match pointer::find(value, path) {
         Ok(found) => Ok(found),
@@ -314,6 +331,8 @@ fn look<'a>(value: &'a JsonValue, name: &'static str, path: &str) -> Result<&'a 
 fn put(alloc: Global, value: &mut JsonValue, path: &str, new: JsonValue) -> Result<(), Cause>
     ensures done { IsDone (added_at (view new) (view value.old) path.now) (view value.new) result }
     ensures err { OnErr result (view value.new ≡ view value.old) }
+    ensures cause { (op v : Value) → IsLookup (codes "path") path.now (view value.old) op v
+        → IfErr result (λ e. IsCause e op v) }
 {
     if path.is_empty() {
         *value = new;
@@ -330,6 +349,8 @@ fn take(value: &mut JsonValue, name: &'static str, path: &str) -> Result<JsonVal
     ensures new { OnOk result (removed_at (view value.old) path.now ≡ Some (view value.new)) }
     ensures error { OnErr result (removed_at (view value.old) path.now ≡ None) }
     ensures err { OnErr result (view value.new ≡ view value.old) }
+    ensures cause { (op v : Value) → IsLookup name.now path.now (view value.old) op v
+        → Takes name.now op → IfErr result (λ e. IsCause e op v) }
 {
     match pointer::remove(value, path) {
         Ok(old) => Ok(old),
@@ -341,6 +362,8 @@ fn replace(value: &mut JsonValue, path: &str, new: JsonValue) -> Result<(), Caus
     ensures done { IsDone (updated_at (λ _. Some (view new)) (view value.old) path.now)
         (view value.new) result }
     ensures err { OnErr result (view value.new ≡ view value.old) }
+    ensures cause { (op v : Value) → IsLookup (codes "path") path.now (view value.old) op v
+        → IfErr result (λ e. IsCause e op v) }
 {
     match pointer::replace(value, path, new) {
         Ok(_old) => Ok(()),
@@ -349,7 +372,10 @@ fn replace(value: &mut JsonValue, path: &str, new: JsonValue) -> Result<(), Caus
 }
 
 fn relocate(alloc: Global, value: &mut JsonValue, from: &str, path: &str) -> Result<(), Cause>
-    ensures { IsDone (moved_at (view value.old) from.now path.now) (view value.new) result }
+    ensures done { IsDone (moved_at (view value.old) from.now path.now) (view value.new) result }
+    ensures cause { (op : Value) → meaning.op_of op ≡ Some ops.Move
+        → text_at (codes "from") op ≡ Some from.now → text_at (codes "path") op ≡ Some path.now
+        → IfErr result (λ e. IsCause e op (view value.old)) }
 {
     if from == path {
         look(value, "from", from)?;
@@ -372,7 +398,11 @@ fn is_below(path: &str, from: &str) -> bool
 }
 
 fn test(value: &JsonValue, path: &str, want: &JsonValue) -> Result<(), Cause>
-    ensures { IsDone (tested_at (view want.now) (view value.now) path.now) (view value.now) result }
+    ensures done { IsDone (tested_at (view want.now) (view value.now) path.now) (view value.now)
+        result }
+    ensures cause { (op : Value) → meaning.op_of op ≡ Some ops.Test
+        → text_at (codes "path") op ≡ Some path.now → meaning.operand op ≡ Some (view want.now)
+        → IfErr result (λ e. IsCause e op (view value.now)) }
 {
     if look(value, "path", path)? == want {
         Ok(())
