@@ -104,7 +104,8 @@ impl DecodeError {
         DecodeError::wrong(alloc, value, Expected::Other(expected))
     }
 
-    /// The error of a value that isn't what is expected.
+    /// The error of a value that isn't what is expected. Inlined, it would be cleared at each read.
+    #[cold]
     pub(super) fn wrong(alloc: Global, value: &JsonValue, expected: Expected) -> DecodeError
         ensures { Refuses expected (view value.now) → IsErrorIn (view value.now) result }
     {
@@ -118,7 +119,8 @@ impl DecodeError {
         }
     }
 
-    /// The error of an object that lacks the key.
+    /// The error of an object that lacks the key. Cold, as `wrong`.
+    #[cold]
     pub(super) fn missing(alloc: Global, key: &str, expected: Expected) -> DecodeError
         ensures { (v : Value) → is_object v ≡ true → find key.now (entries v) ≡ None
             → IsErrorIn v result }

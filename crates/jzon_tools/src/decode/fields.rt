@@ -183,10 +183,7 @@ impl<'v> Fields<'v> {
         ensures none { result ≡ None → IsAbsent (find key.now (entries (read_from self.now))) }
     {
         let value = self.entry(key)?;
-        if value.is_null() {
-            return None;
-        }
-        Some(value)
+        if value.is_null() { None } else { Some(value) }
     }
 
     /// The value of the entry with this key, read as a type.
@@ -212,6 +209,7 @@ impl<'v> Fields<'v> {
 }
 
 /// What the error of a missing entry says is expected: what the type expects in place of null.
+#[cold]
 fn expected_of<T: FromJson>(alloc: Global) -> Expected {
     match T::from_json(alloc, &JsonValue::Null) {
         Err(DecodeError::Wrong { expected, .. }) => expected,
