@@ -77,11 +77,10 @@ impl<'a> Cursor<'a> {
         fault_at(self.source, self.index)
     }
 
-    /// Moves past the opening bracket that comes next, inside of `depth` containers. If the
-    /// container is empty, moves past its closing bracket too and returns `true`. If not, fails at
-    /// the end of the text (`Stop::At`), and else if `depth` is the most that the reading allows
-    /// (`Stop::Limit`): empty containers don't count, so the limit is exceeded only at the first
-    /// character inside.
+    /// Moves past the opening bracket that comes next, inside of `depth` containers; of an empty
+    /// container, past the closing one too, and returns `true`. Of another one, fails at the end of
+    /// the text (`Stop::At`), and else if `depth` is the most that the reading allows
+    /// (`Stop::Limit`, at the first character inside).
     #[inline(always)]
     pub(crate) fn open_container(&mut self, kind: ContainerKind, depth: usize) -> Result<bool>
         requires room { depth ≤ self.old.reading.depth }
@@ -112,10 +111,9 @@ impl<'a> Cursor<'a> {
         Ok(false)
     }
 
-    /// Moves past the comma or the closing bracket after an element or an entry that ends at `end`,
-    /// at the cursor or after it. Returns whether the container ends; fails if neither follows.
-    /// Most texts have no whitespace there, so it is skipped only if neither a comma nor a closing
-    /// bracket is at `end`.
+    /// Moves past the comma or the closing bracket after an element or an entry that ends at `end`.
+    /// Returns whether the container ends; fails if neither follows. Whitespace, which most texts
+    /// don't have there, is skipped only if neither is at `end`.
     #[inline(always)]
     pub(crate) fn end_item(&mut self, end: usize, kind: ContainerKind) -> Result<bool>
         requires boundary { IsCharBoundary self.old.source.now end }

@@ -263,10 +263,9 @@ impl<'a> Parser<'a> {
         Ok(Next::Item)
     }
 
-    /// Makes the value of the innermost container, which ended, adds it to the container around it,
-    /// and reads the comma or the closing bracket after it; repeats this as long as containers end.
-    /// Returns `None` after a comma: the next element or key follows. If the outermost container
-    /// ended, its value is returned.
+    /// Makes the value of the innermost container, which ended, adds it to the one around it, and
+    /// reads what follows it; repeats this as long as containers end. Returns `None` after a comma,
+    /// and the value of the outermost container if that ended.
     #[inline(always)]
     fn end_containers(&mut self) -> stop::Result<Option<JsonValue>>
         requires even { HasAllValues self.old.stacks.innermost.kind self.old.stacks.innermost }

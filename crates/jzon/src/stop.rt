@@ -16,9 +16,8 @@ use std::simd::prelude::*;
 /// How many bytes are compared at once.
 const LANES: usize = 16;
 
-/// Why the parser stops. Its functions return this in place of an `Error`, which is made at the
-/// end: a result that may hold an `Error` has 40 bytes or more, which are cleared each time that
-/// one is made.
+/// Why the parser stops. An `Error` is made of it at the end, because a result that may hold one
+/// has 40 bytes or more, which are cleared each time.
 #[derive(Clone, Copy)]
 pub(crate) enum Stop {
     /// An allocation failed.
@@ -172,8 +171,8 @@ fn count_in_lanes(bytes: &[u8], start: usize, turn: u8, bound: u8) -> usize
     below.to_bitmask().count_ones() as usize
 }
 
-/// The stop for a text that goes wrong at `index`: neither the character there nor the end of the
-/// text is allowed. The text is an argument only for the clause.
+/// The stop for a text that has no valid continuation at `index`. The text is there only for the
+/// clause.
 #[inline(always)]
 pub(crate) fn fault_at(source: &str, index: usize) -> Stop
     requires { IsCharBoundary source.now index }
@@ -182,7 +181,7 @@ pub(crate) fn fault_at(source: &str, index: usize) -> Stop
     Stop::At(index)
 }
 
-/// The stop for one open container too many. Not inlined, so that it costs the usual path nothing.
+/// The stop for one open container too many. Not inlined, as it is rare.
 #[cold]
 #[inline(never)]
 pub(crate) fn too_deep(index: usize) -> Stop

@@ -14,8 +14,7 @@ pub const LINEAR_MAX: usize = 32;
 /// Up to how many keys one word of bits finds those that may repeat. Of more keys, a filter does.
 const ONE_WORD_MAX: usize = 16;
 
-/// Whether texts have the same bytes. It is a function of its own, so that `are_equal` makes a call
-/// only if lengths and last bytes agree.
+/// Whether texts have the same bytes.
 #[inline(never)]
 fn have_same_bytes(a: &str, b: &str) -> bool
     ensures { result ≡ bytes_eq a.now b.now }
@@ -31,8 +30,8 @@ pub fn last_byte(text: &str) -> u8
     text.as_bytes().last().copied().unwrap_or(0)
 }
 
-/// Whether texts are equal. Most unequal ones differ in length or in the last byte, which are
-/// compared without a call.
+/// Whether texts are equal. Most unequal ones differ in length or in the last byte; only others
+/// cost a call.
 #[inline(always)]
 #[tactic(auto, using(crate::proofs::KeyIndex::Indexes::other_last))]
 fn are_equal(a: &str, b: &str) -> bool
@@ -70,8 +69,7 @@ fn are_distinct_by_filter(keys: &[Key]) -> bool
     true
 }
 
-/// The number of a key's bit in a word, which is computed from its length, its first byte and its
-/// last.
+/// The number of a key's bit in a word, by its length, its first byte and its last.
 #[inline(always)]
 #[tactic(auto, unfolding(crate::specs::Private::Filter::word_bit_of))]
 fn bit_of(name: &str) -> usize
@@ -87,7 +85,7 @@ fn bit_of(name: &str) -> usize
 }
 
 /// Whether no key repeats. A key is compared with those before it only if one of them may have set
-/// its bit. One word has bits enough for few keys, and it stays in a register.
+/// its bit. One word has bits enough for few keys.
 #[inline(always)]
 pub fn are_distinct(keys: &[Key]) -> bool
     ensures { IsTrue result ↔ IsDistinct bytes_eq keys.now }
