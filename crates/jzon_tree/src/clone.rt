@@ -13,6 +13,8 @@ use std::alloc::{AllocError, Global};
 impl JsonValue {
     /// A copy of the value, with the parts of its numbers and the order of its keys. Fails with
     /// `OutOfMemory` only.
+    // As a function, it would clear and move one result more.
+    #[inline(always)]
     pub fn clone(&self, alloc: Global) -> Result<JsonValue>
         ensures copy { IfOk result (λ copy. view copy ≡ view self.now) }
         ensures memory { IsOkUnless result Error.OutOfMemory }
