@@ -3,10 +3,10 @@ use Rattle.std.proofs.Common.{◌≡◌, ◌||◌, ℕ, suc, ◌+◌, ◌<◌, �
 use Rattle.std.proofs.Common.{get_or, map, refl, sym, ap, ◌∙◌, append_assoc, add-one, lt-ltb, arith, nat_lt, Option, None, Some, IsPermutation}
 use Rattle.std.proofs.Common.{length-drop}
 use Rattle.std.proofs.Math.Seq.{drop-cons}
+use Rattle.std.proofs.lemmas.Bool.{or_from}
 use Rattle.std.proofs.lemmas.List.{nil_from_length, take_all}
 use Rattle.std.proofs.lemmas.List.Folds.{list_any_more}
 use Rattle.std.proofs.lemmas.List.Sorted.{list_any-IsPermutation, IsPermutation-sym}
-use Rattle.std.proofs.lemmas.Option.{same_Some}
 use Rattle.std.specs.Borrow.{Bor}
 use Rattle.std.specs.List.{list_any}
 use Rattle.std.specs.List.Sorted.{IsStrictlySortedBy}
@@ -35,10 +35,6 @@ pub adds_equal : (a b : Option (List ℕ)) (x y : List ℕ) → x ≡ y → Adds
 adds_equal None b x y e h = tt
 adds_equal (Some xs) None x y e h = absurd h
 adds_equal (Some xs) (Some ys) x y e (p, ep, px) = (p, ep, px ∙ e)
-
-pub added_whole : (o : Option (List ℕ)) (x y : List ℕ) → Adds (Just x) (Some []) o → o ≡ Some y → y ≡ x
-added_whole None x y h e = absurd h
-added_whole (Some zs) x y (p, ep, px) e = sym (same_Some zs y e) ∙ ep ∙ px
 
 -- ---- the compact text of a container
 
@@ -152,14 +148,10 @@ item_nan v = has_nan (view v)
 abbrev pub entry_nan : Entry → Bool
 entry_nan e = has_nan (view e.1.now)
 
-either_false : (a b : Bool) → a ≡ false → b ≡ false → (a || b) ≡ false
-either_false true b h k = h
-either_false false b h k = k
-
 pub no_nan_more : {X : Type 0} (p : X → Bool) (xs : List X) (i : ℕ) (x : X) → i < length xs → x ≡ get_or xs i x
     → p x ≡ false → list_any p (take i xs) ≡ false → list_any p (take (i + 1) xs) ≡ false
 no_nan_more p xs i x lt at none before =
-    list_any_more p xs i x lt ∙ either_false (list_any p (take i xs)) (p (get_or xs i x)) before (ap p (sym at) ∙ none)
+    list_any_more p xs i x lt ∙ or_from (list_any p (take i xs)) (p (get_or xs i x)) before (ap p (sym at) ∙ none)
 
 pub no_nan_all : {X : Type 0} (p : X → Bool) (xs : List X) (i : ℕ) → length xs ≤ i → list_any p (take i xs) ≡ false
     → list_any p xs ≡ false

@@ -1,6 +1,7 @@
 -- A change at tokens, a token at a time.
 use Rattle.std.proofs.Common.{◌≡◌, ℕ, zero, suc, List, [], ◌∷◌, ◌++◌, Bool, true, false, Option, None, Some, option_map, option_and_then, slice_get, slice_set}
 use Rattle.std.proofs.Common.{Result, Ok, Err, IsErr, length, ◌+◌, refl, sym, ap, ◌∙◌, subst, if◌then◌else◌}
+use Rattle.std.proofs.lemmas.Option.{same_Some}
 use Rattle.std.specs.Option.{option_map_or, ok_or}
 use Rattle.std.specs.Result.{result_ok}
 use Rattle.std.specs.Str.{bytes_eq}
@@ -77,19 +78,19 @@ pub found-down : (v : Value) (t : List ℕ) (ts : List (List ℕ)) (c : Value) �
 found-down v t ts c at =
     ap result_ok (found-below 1 v t ts c at) ∙ found-position ts (suc (1 + length t)) 1 c
 
-pub changes-below : (v : Value) (t : List ℕ) (ts : List (List ℕ)) (c old new w : Value) → child_of v t ≡ Some c
-    → ChangesAt c ts old new w → ChangesAt v (t ∷ ts) old new (with_child v t w)
-changes-below v t ts c old new w at h = (
+pub changes-below : (v : Value) (t : List ℕ) (ts : List (List ℕ)) (c old new w u : Value) → child_of v t ≡ Some c
+    → with_child v t w ≡ u → ChangesAt c ts old new w → ChangesAt v (t ∷ ts) old new u
+changes-below v t ts c old new w u at is h = (
   λ i. found-below i v t ts c at ∙ h.0 (suc (i + length t)),
   ap (λ o. option_map (with_child v t) (option_and_then (λ d. updated (λ _. Some new) d ts) o)) at
-      ∙ ap (option_map (with_child v t)) h.1,
+      ∙ ap (option_map (with_child v t)) h.1 ∙ ap (λ x. Some x) is,
 )
 
-pub lacks-below : (v : Value) (t : List ℕ) (ts : List (List ℕ)) (c w : Value) → child_of v t ≡ Some c
-    → LacksAt c ts w → LacksAt v (t ∷ ts) (with_child v t w)
-lacks-below v t ts c w at h = (
+pub lacks-below : (v : Value) (t : List ℕ) (ts : List (List ℕ)) (c w u : Value) → child_of v t ≡ Some c
+    → with_child v t w ≡ u → LacksAt c ts w → LacksAt v (t ∷ ts) u
+lacks-below v t ts c w u at is h = (
   λ i. subst IsErr (sym (found-below i v t ts c at)) (h.0 (suc (i + length t))),
-  ap (with_child v t) h.1 ∙ with_child-same v t c at,
+  sym is ∙ ap (with_child v t) h.1 ∙ with_child-same v t c at,
 )
 
 pub lacks-here : (v : Value) (t : List ℕ) (ts : List (List ℕ)) → child_of v t ≡ None → LacksAt v (t ∷ ts) v
@@ -182,13 +183,10 @@ updated-same (u ∷ us) old i v h = updated-same_by (child_of v u) u us i v old 
 
 -- ---- what a change of the last token gives
 
-some_is : (a b : Value) → ◌≡◌ {A = Option Value} (Some a) (Some b) → a ≡ b
-some_is a b h = cc
-
 -- where a change leaves what is there, the whole is as it was
 pub changes-kept : (v : Value) (ts : List (List ℕ)) (old new w : Value) → ChangesAt v ts old new w → new ≡ old → w ≡ v
 changes-kept v ts old new w h same =
-    some_is w v (sym h.1 ∙ ap (λ x. updated (λ _. Some x) v ts) same ∙ updated-same ts old 0 v (h.0 0))
+    same_Some w v (sym h.1 ∙ ap (λ x. updated (λ _. Some x) v ts) same ∙ updated-same ts old 0 v (h.0 0))
 
 pub changed-some : (f : Value → List ℕ → Option Value) (v : Value) (ts : List (List ℕ)) (t : List ℕ) (old new w : Value)
     → ChangesAt v ts old new w → f old t ≡ Some new → changed f v (ts ++ t ∷ []) ≡ Some w

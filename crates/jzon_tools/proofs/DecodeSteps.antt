@@ -1,7 +1,9 @@
 -- The pointer of an error of a reading, with a step before it.
 use Rattle.std.proofs.Common.{◌≡◌, ℕ, List, [], ◌∷◌, ◌++◌, Bool, true, false, ◌==◌, if◌then◌else◌}
-use Rattle.std.proofs.Common.{Option, None, Some, option_and_then, Result, Ok, Err, string_bytes}
+use Rattle.std.proofs.Common.{None, Some, option_and_then, Result, Ok, Err, string_bytes}
 use Rattle.std.proofs.Common.{refl, sym, ap, ◌∙◌, subst, append_assoc, append-nil}
+use Rattle.std.proofs.lemmas.Bool.{eqb-true}
+use Rattle.std.proofs.lemmas.Option.{none-some}
 use Rattle.std.specs.Option.{ok_or}
 use Rattle.std.specs.Result.{result_ok}
 use Rattle.std.specs.declared.alloc.Global.{Global}
@@ -18,18 +20,15 @@ use Rattle.jzon_tools.specs.declared.pointer.PointerError.{PointerError}
 use Rattle.jzon_tools.specs.declared.pointer.PointerError.TheVariants.{NoSlash}
 use Rattle.jzon_tools.proofs.ChangeLaws.{found-down}
 use Rattle.jzon_tools.proofs.PlaceSteps.{value-of-tokens}
-use Rattle.jzon_tools.proofs.EscapedSteps.{equals, token_key-escaped}
+use Rattle.jzon_tools.proofs.EscapedSteps.{token_key-escaped}
 use Rattle.jzon_tools.proofs.TokenSteps.{Lacks, tokens-first, tokens-only}
 
-no_entry : (w : Value) → ◌≡◌ {A = Option Value} None (Some w) → ⊥
-no_entry w h = absurd (cc)
-
 pub key-child : (k : List ℕ) (v w : Value) → find k (entries v) ≡ Some w → child_of v (escaped k) ≡ Some w
-key-child k null w h = absurd (no_entry w h)
-key-child k (boolean b) w h = absurd (no_entry w h)
-key-child k (text s t) w h = absurd (no_entry w h)
-key-child k (number n) w h = absurd (no_entry w h)
-key-child k (array vs) w h = absurd (no_entry w h)
+key-child k null w h = absurd (none-some w h)
+key-child k (boolean b) w h = absurd (none-some w h)
+key-child k (text s t) w h = absurd (none-some w h)
+key-child k (number n) w h = absurd (none-some w h)
+key-child k (array vs) w h = absurd (none-some w h)
 key-child k (object ps) w h = ap (option_and_then (λ j. find j (list_of_pairs ps))) (token_key-escaped k) ∙ h
 
 -- ---- a step
@@ -56,7 +55,13 @@ pub below-value : (v c w : Value) (t p : List ℕ) → Lacks 47 t → child_of v
     → value_at v ((47 ∷ t) ++ p) ≡ Ok w
 below-value v c w t [] lacks at h =
     below_tokens v c w t [] [] (ap (λ l. Some (tokens_in l)) (append-nil t) ∙ ap (λ ts. Some ts) (tokens-only t lacks)) at h
-below-value v c w t (x ∷ q) lacks at h = below_by (x == 47) v c w t q x lacks at (equals x 47) h
+below-value v c w t (x ∷ q) lacks at h = below_by (x == 47) v c w t q x lacks at (eqb-true x 47) h
+
+-- a pointer in a child that ends in a key's token ends in it after the child's token
+cut-below : (t r k p q : List ℕ) → p ≡ (47 ∷ t) ++ q → q ≡ r ++ 47 ∷ escaped k
+    → p ≡ ((47 ∷ t) ++ r) ++ 47 ∷ escaped k
+cut-below t r k p q is cut =
+    is ∙ ap (λ l. (47 ∷ t) ++ l) cut ∙ sym (append_assoc (47 ∷ t) r (47 ∷ escaped k))
 
 -- an error of a child is one of the value, after the child's token
 pub below-error : (v c : Value) (t : List ℕ) (e : DecodeError) (p : String Global) → Lacks 47 t
@@ -65,27 +70,7 @@ below-error v c t (Text l) p lacks at is h = h
 below-error v c t OutOfMemory p lacks at is h = h
 below-error v c t (Wrong q expected f) p lacks at is (w, there, says, refused) =
     (w, ap (value_at v) is ∙ below-value v c w t (string_bytes q) lacks at there, says, refused)
-below-error v c t (Missing q expected) p lacks at is (r, k, o, cut, there, is_one, last) = (
-  (47 ∷ t) ++ r,
-  k,
-  o,
-  is ∙ ap (λ l. (47 ∷ t) ++ l) cut ∙ sym (append_assoc (47 ∷ t) r (47 ∷ escaped k)),
-  below-value v c o t r lacks at there,
-  is_one,
-  last,
-)
-below-error v c t (Unknown q known) p lacks at is (r, k, o, cut, there, is_one, last) = (
-  (47 ∷ t) ++ r,
-  k,
-  o,
-  is ∙ ap (λ l. (47 ∷ t) ++ l) cut ∙ sym (append_assoc (47 ∷ t) r (47 ∷ escaped k)),
-  below-value v c o t r lacks at there,
-  is_one,
-  last,
-)
-
--- ---- errors of the value itself
-
-pub key-pointer : (p : String Global) (k : List ℕ) → string_bytes p ≡ (47 ∷ escaped k) ++ []
-    → string_bytes p ≡ [] ++ 47 ∷ escaped k
-key-pointer p k is = is ∙ append-nil (47 ∷ escaped k)
+below-error v c t (Missing q expected) p lacks at is (r, k, o, cut, there, is_one, last) =
+    ((47 ∷ t) ++ r, k, o, cut-below t r k _ _ is cut, below-value v c o t r lacks at there, is_one, last)
+below-error v c t (Unknown q known) p lacks at is (r, k, o, cut, there, is_one, last) =
+    ((47 ∷ t) ++ r, k, o, cut-below t r k _ _ is cut, below-value v c o t r lacks at there, is_one, last)

@@ -37,15 +37,14 @@ inserted_by : (items : List JsonValue) (new : JsonValue) (i : Option ℕ)
 inserted_by items new None = refl
 inserted_by items new (Some i) = ap (λ vs. Some (array (values_of vs))) (sym (map-insert view items i new))
 
-pub element-new : (items : List JsonValue) (t : List ℕ) (new : JsonValue)
-    → with_new (view new) (array_seen items) t
-    ≡ option_map (λ i. array_seen (insert items i new)) (new_index t (length items))
-element-new items t new =
-    ap (λ vs. option_map (λ i. array (values_of (insert vs i (view new)))) (new_index t (length vs)))
+pub element-new : (items : List JsonValue) (t : List ℕ) (new : JsonValue) (n : ℕ) (i : Option ℕ) → length items ≡ n
+    → new_index t n ≡ i → with_new (view new) (array_seen items) t ≡ option_map (λ j. array_seen (insert items j new)) i
+element-new items t new n i long at =
+    ap (λ vs. option_map (λ j. array (values_of (insert vs j (view new)))) (new_index t (length vs)))
     (list_of_values-values_of (map view items))
-    ∙ ap (λ n. option_map (λ i. array (values_of (insert (map view items) i (view new)))) (new_index t n))
-    (length-map items view)
-    ∙ inserted_by items new (new_index t (length items))
+    ∙ ap (option_map (λ j. array (values_of (insert (map view items) j (view new)))))
+    (ap (new_index t) (length-map items view ∙ long) ∙ at)
+    ∙ inserted_by items new i
 
 put_by : (ps : List (List ℕ × JsonValue)) (new : JsonValue) (k : Option (List ℕ))
     → option_map (λ j. object (pairs_of (put j (view new) (list_of_pairs (pairs_of (viewed ps)))))) k
@@ -70,15 +69,16 @@ removed_by : (items : List JsonValue) (i : ℕ) (o : Option JsonValue)
 removed_by items i None = refl
 removed_by items i (Some v) = ap (λ vs. Some (array (values_of vs))) (sym (map-remove view items i))
 
-pub element-removed : (items : List JsonValue) (t : List ℕ) (i : ℕ) → index_named t ≡ Some i
-    → without (array_seen items) t ≡ option_map (λ c. array_seen (remove items i)) (slice_get items i)
-element-removed items t i named =
+pub element-removed : (items : List JsonValue) (t : List ℕ) (i : ℕ) (r : Option JsonValue) → index_named t ≡ Some i
+    → slice_get items i ≡ r → without (array_seen items) t ≡ option_map (λ c. array_seen (remove items i)) r
+element-removed items t i r named at =
     ap (option_and_then (λ j. option_map (λ c. array (values_of (remove (list_of_values (values_of (map view items))) j)))
     (slice_get (list_of_values (values_of (map view items))) j))) named
     ∙ ap (λ vs. option_map (λ c. array (values_of (remove vs i))) (slice_get vs i))
     (list_of_values-values_of (map view items))
-    ∙ ap (option_map (λ c. array (values_of (remove (map view items) i)))) (slice_get-map view items i)
-    ∙ removed_by items i (slice_get items i)
+    ∙ ap (option_map (λ c. array (values_of (remove (map view items) i))))
+    (slice_get-map view items i ∙ ap (option_map view) at)
+    ∙ removed_by items i r
 
 cut_by : (ps : List (List ℕ × JsonValue)) (k : Option (List ℕ))
     → option_and_then (λ j. option_map (λ c. object (pairs_of (cut j (list_of_pairs (pairs_of (viewed ps))))))

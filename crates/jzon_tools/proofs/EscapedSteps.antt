@@ -1,7 +1,7 @@
 -- The token of a key, a piece at a time.
 use Rattle.std.proofs.Common.{◌≡◌, ◌≢◌, ℕ, zero, suc, List, [], ◌∷◌, ◌++◌, refl, sym, ap, ◌∙◌, arith, append_assoc, append-nil, ne_eqb}
 use Rattle.std.proofs.Common.{Bool, true, false, ◌==◌, if◌then◌else◌, Some, option_map}
-use Rattle.std.proofs.lemmas.Bool.Decides.{nat_tests}
+use Rattle.std.proofs.lemmas.Bool.{eqb-true, eqb-false}
 use Rattle.jzon_tools.specs.Escaped.{escaped, slashed, slash_of}
 use Rattle.jzon_tools.specs.Pointer.{tokens_of, token_key}
 use Rattle.jzon_tools.proofs.TokenSteps.{Lacks, tokens-parent}
@@ -46,12 +46,6 @@ slashed-turn text made start rest plain after whole so_far cut lacks is =
 
 -- ---- the whole token
 
-differs : (c d : ℕ) → (c == d) ≡ false → c ≢ d
-differs c d h = grind (arith, nat_tests)
-
-pub equals : (c d : ℕ) → (c == d) ≡ true → c ≡ d
-equals c d h = grind (arith, nat_tests)
-
 lacks_cons : (c x : ℕ) (xs : List ℕ) → x ≢ c → Lacks c xs → Lacks c (x ∷ xs)
 lacks_cons c x xs n h zero less = n
 lacks_cons c x xs n h (suc i) less = h i (omega arith)
@@ -64,7 +58,7 @@ lacks_by false false c es n h = lacks_cons 47 c es (n refl) h
 
 pub lacks-escaped : (k : List ℕ) → Lacks 47 (escaped k)
 lacks-escaped [] = λ i less. absurd (omega arith)
-lacks-escaped (c ∷ cs) = lacks_by (c == 126) (c == 47) c (escaped cs) (differs c 47) (lacks-escaped cs)
+lacks-escaped (c ∷ cs) = lacks_by (c == 126) (c == 47) c (escaped cs) (eqb-false c 47) (lacks-escaped cs)
 
 unescaped_by : (t s : Bool) (c : ℕ) (cs es : List ℕ) → (t ≡ true → c ≡ 126) → (s ≡ true → c ≡ 47)
     → (t ≡ false → (c == 126) ≡ false) → token_key es ≡ Some cs
@@ -78,7 +72,7 @@ unescaped_by false false c cs es tilde slash other h = rw (other refl) (ap (opti
 pub token_key-escaped : (k : List ℕ) → token_key (escaped k) ≡ Some k
 token_key-escaped [] = refl
 token_key-escaped (c ∷ cs) =
-    unescaped_by (c == 126) (c == 47) c cs (escaped cs) (equals c 126) (equals c 47) (λ h. h) (token_key-escaped cs)
+    unescaped_by (c == 126) (c == 47) c cs (escaped cs) (eqb-true c 126) (eqb-true c 47) (λ h. h) (token_key-escaped cs)
 
 -- a pointer with the token of a key after its last
 pub pushed-tokens : (old new k : List ℕ) (ts : List (List ℕ)) → new ≡ old ++ 47 ∷ escaped k → tokens_of old ≡ Some ts

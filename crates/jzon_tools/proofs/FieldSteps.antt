@@ -1,5 +1,5 @@
 -- An entry that is missing, or whose value is null.
-use Rattle.std.proofs.Common.{◌≡◌, ◌⊎◌, List, [], ◌∷◌, ℕ, Bool, true, false, not, ◌&&◌, cond, if◌then◌else◌, Option, None, Some, IfOk, Result, Ok, Err}
+use Rattle.std.proofs.Common.{◌≡◌, List, [], ◌∷◌, ℕ, Bool, true, false, not, ◌&&◌, cond, if◌then◌else◌, Option, None, Some}
 use Rattle.std.proofs.Common.{refl, sym, ap, ◌∙◌, subst, inl, inr, ◌<◌, ◌+◌, ◌++◌, length, get_or, map, take, arith}
 use Rattle.std.proofs.lemmas.List.{get_or-map, length-map, take_more}
 use Rattle.std.proofs.lemmas.Slice.Zip.{all_zipped_more}
@@ -32,12 +32,6 @@ pub absent-null : (o : Option Value) (v : Value) → Some v ≡ o → is_null v 
 absent-null o v is h = inr (sym is ∙ ap (λ (w : Value). Some w) (null-is v h))
 
 pub ruleset absent = (null-is, absent-none, absent-null)
-
--- what a reading of an entry gives
-pub given : {X E : Type 0} (r : Result X E) (o : Option Value) (w : Value) (G : Value → X → Type 0) → o ≡ Some w
-    → IfOk r (G w) → IfOk r (λ x. (v : Value) × (o ≡ Some v) × G v x)
-given (Ok x) o w G is h = (w, is, h)
-given (Err e) o w G is h = tt
 
 -- ---- the first key that isn't among some names
 
@@ -92,11 +86,6 @@ unknown-some p (j ∷ ks) k h = not_all_by (p j) j k _ (list_all p ks) (unknown-
 -- the keys of an object, as it is seen
 pub keys-seen : (o : Object) → keys_of (entries (view_object o)) ≡ keys_of (entries_of o)
 keys-seen o = ap keys_of (list_of_pairs-pairs_of (viewed (entries_of o))) ∙ keys-viewed (entries_of o)
-
-pub given_or : {X E : Type 0} (r : Result X E) (o : Option Value) (w : Value) (G : Value → X → Type 0) (P : X → Type 0)
-    → o ≡ Some w → IfOk r (G w) → IfOk r (λ x. P x ⊎ ((v : Value) × (o ≡ Some v) × G v x))
-given_or (Ok x) o w G P is h = inr (w, is, h)
-given_or (Err e) o w G P is h = tt
 
 -- ---- the elements of an array
 

@@ -1,8 +1,10 @@
 -- The token of an index is its decimal text.
-use Rattle.std.proofs.Common.{◌≡◌, ◌<◌, ◌^◌, ℕ, zero, suc, List, [], ◌∷◌, length, get_or, Bool, true, false, ◌&&◌, ◌==◌, nat_lt, Option, None, Some, option_and_then, slice_get, slice_index}
+use Rattle.std.proofs.Common.{◌≡◌, ◌<◌, ◌^◌, ℕ, zero, suc, List, [], ◌∷◌, length, get_or, true, false, ◌&&◌, ◌==◌, nat_lt, Some, option_and_then, slice_get, slice_index}
 use Rattle.std.proofs.Common.{refl, ap, ◌∙◌, arith, ne_eqb}
 use Rattle.std.proofs.lemmas.Bool.{lt-ltb}
 use Rattle.std.proofs.lemmas.Bool.Decides.{nat_tests}
+use Rattle.std.proofs.Math.Bool.{and-false}
+use Rattle.std.proofs.lemmas.Option.{none-some}
 use Rattle.std.proofs.lemmas.Fmt.{decimal_is_IsNumeral, decimal_nonempty, decimal_digit, first_decimal}
 use Rattle.std.proofs.lemmas.Str.Parse.{digit_at, digit_from_value}
 use Rattle.std.specs.Char.{is_ascii_digit}
@@ -26,16 +28,12 @@ no_zero_by : (ds : List ℕ) → 48 < get_or ds 0 0 → (slice_index ds 0 == 48)
 no_zero_by [] h = absurd (omega arith)
 no_zero_by (c ∷ cs) h = ne_eqb c 48 (omega arith)
 
-and_false : (b : Bool) → (b && false) ≡ false
-and_false true = refl
-and_false false = refl
-
 no_leading_zero : (n : ℕ) → n < 2 ^ 64
     → (nat_lt 1 (length (decimal n)) && (slice_index (decimal n) 0 == 48)) ≡ false
 no_leading_zero zero small = rw (decimal_digit 0 (omega arith)) refl
 no_leading_zero (suc n) small =
     rw (no_zero_by (decimal (suc n)) (first_decimal (suc n) (omega arith) small))
-    (and_false (nat_lt 1 (length (decimal (suc n)))))
+    (and-false (nat_lt 1 (length (decimal (suc n)))))
 
 index_text : (n : ℕ) → n < 2 ^ 64 → is_index (decimal n) ≡ true
 index_text n small =
@@ -56,15 +54,12 @@ lacks-decimal n small =
     let whole = decimal_is_IsNumeral n small in
     λ i less. let digit = digit_at (decimal n) i whole.0.1 less in omega arith
 
-no_element : (w : Value) → ◌≡◌ {A = Option Value} None (Some w) → ⊥
-no_element w h = absurd (cc)
-
 pub index-child : (n : ℕ) (v w : Value) → n < 2 ^ 64 → slice_get (items v) n ≡ Some w
     → child_of v (decimal n) ≡ Some w
-index-child n null w small h = absurd (no_element w h)
-index-child n (boolean b) w small h = absurd (no_element w h)
-index-child n (text s t) w small h = absurd (no_element w h)
-index-child n (number d) w small h = absurd (no_element w h)
-index-child n (object ps) w small h = absurd (no_element w h)
+index-child n null w small h = absurd (none-some w h)
+index-child n (boolean b) w small h = absurd (none-some w h)
+index-child n (text s t) w small h = absurd (none-some w h)
+index-child n (number d) w small h = absurd (none-some w h)
+index-child n (object ps) w small h = absurd (none-some w h)
 index-child n (array vs) w small h =
     ap (option_and_then (λ i. slice_get (list_of_values vs) i)) (index-named n small) ∙ h

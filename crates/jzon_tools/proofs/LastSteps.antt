@@ -5,6 +5,7 @@ use Rattle.jzon.specs.Value.{Value}
 use Rattle.jzon_tools.specs.Pointer.{tokens_of, child_of, found, value_at, entry_at, changed, with_new, inserted_at, without, removed_at, ChangesAt, IsLast, LacksAt}
 use Rattle.jzon_tools.specs.declared.pointer.PointerError.{PointerError}
 use Rattle.jzon_tools.proofs.ChangeLaws.{changes-kept, changed-some, changed-none, changed-lacks, found-child, lacks-last, lacks-child}
+use Rattle.jzon_tools.proofs.EditSteps.{no_new-no_child}
 use Rattle.jzon_tools.proofs.PlaceSteps.{value-of-tokens}
 use Rattle.jzon_tools.proofs.TokenSteps.{Lacks, tokens-parent, no_slash}
 
@@ -19,7 +20,7 @@ is-last path parent t ts cut lacks e = record {
   entry = λ v. subst (λ p. entry_at v p ≡ value_at v p) (sym cut) (entry-value v parent t);
 }
 
-module _ (path : List ℕ) (ts : List (List ℕ)) (t : List ℕ) (last : IsLast path ts t) where
+module _ {path : List ℕ} {ts : List (List ℕ)} {t : List ℕ} (last : IsLast path ts t) where
   at-last : (v : Value) → value_at v path ≡ found 1 v (ts ++ t ∷ [])
   at-last v = value-of-tokens v path (ts ++ t ∷ []) last.tokens
 
@@ -37,12 +38,10 @@ module _ (path : List ℕ) (ts : List (List ℕ)) (t : List ℕ) (last : IsLast 
         kept,
       )
 
-  pub nowhere : (v w : Value) → LacksAt v ts w → IsErr (value_at w path) × (w ≡ v)
-  nowhere v w h = (
-    subst (λ x. IsErr (value_at x path)) (sym h.1)
-        (subst IsErr (sym (at-last v)) (lacks-last t ts 1 v (h.0 1))),
-    h.1,
-  )
+  pub nowhere : (v w : Value) → LacksAt v ts w → IsErr (value_at w path)
+  nowhere v w h =
+      subst (λ x. IsErr (value_at x path)) (sym h.1)
+      (subst IsErr (sym (at-last v)) (lacks-last t ts 1 v (h.0 1)))
 
   pub entry-missing : (v w : Value) (e : PointerError) → value_at w path ≡ Err e → w ≡ v → entry_at v path ≡ Err e
   entry-missing v w e h kept = last.entry v ∙ ap (λ x. value_at x path) (sym kept) ∙ h
@@ -57,10 +56,16 @@ module _ (path : List ℕ) (ts : List (List ℕ)) (t : List ℕ) (last : IsLast 
   inserted x v old new w h is =
       ap (option_and_then (changed (with_new x) v)) last.tokens ∙ changed-some (with_new x) v ts t old new w h is
 
-  pub not_inserted : (x v old new w : Value) → ChangesAt v ts old new w → with_new x old t ≡ None
-      → inserted_at x v path ≡ None
-  not_inserted x v old new w h is =
-      ap (option_and_then (changed (with_new x) v)) last.tokens ∙ changed-none (with_new x) v ts t old (h.0 0) is
+  -- there is no place for it, and nothing was changed
+  pub not_inserted : (x v old new w : Value) → ChangesAt v ts old new w → with_new x old t ≡ None → new ≡ old
+      → IsErr (value_at w path) × (w ≡ v) × (inserted_at x v path ≡ None)
+  not_inserted x v old new w h none same =
+      let there = nothing-there v old new w h (no_new-no_child x old t none) same in (
+        there.0,
+        there.1,
+        ap (option_and_then (changed (with_new x) v)) last.tokens
+            ∙ changed-none (with_new x) v ts t old (h.0 0) none,
+      )
 
   pub inserted-nowhere : (x v w : Value) → LacksAt v ts w → inserted_at x v path ≡ None
   inserted-nowhere x v w h =

@@ -11,7 +11,7 @@ use Rattle.jzon_tools.specs.Pointer.{token_key, names}
 
 module _ {V : Type 0} where
   -- the value at the position, if it is within the length
-  abbrev at_place : List (List ℕ × V) → Option ℕ → Option V
+  abbrev pub at_place : List (List ℕ × V) → Option ℕ → Option V
   at_place ps i = option_map (λ p. p.1) (option_and_then (λ j. slice_get ps j) i)
 
   later_by : (b : Bool) (n m : ℕ) (p : List ℕ × V) (ps : List (List ℕ × V)) → nat_lt n m ≡ b
@@ -59,6 +59,10 @@ module _ {V : Type 0} where
       ≡ option_map (λ p. p.1) (option_and_then (λ j. slice_get ps j) (position (names t) (keys_of ps)))
   named-entry t ps = first_by (token_key t) ps
 
+  pub entry-at : (t : List ℕ) (ps : List (List ℕ × V)) (i : Option ℕ) → position (names t) (keys_of ps) ≡ i
+      → option_and_then (λ k. find k ps) (token_key t) ≡ at_place ps i
+  entry-at t ps i at = named-entry t ps ∙ ap (at_place ps) at
+
   -- ---- what is written there
 
   put-at : (k : List ℕ) (ps : List (List ℕ × V)) (i : ℕ) (w : V) → i < length (keys_of ps)
@@ -70,18 +74,22 @@ module _ {V : Type 0} where
       let other : bytes_eq p.0 k ≡ false = before 0 (omega arith) in
       rw other (ap (λ qs. p ∷ qs) (put-at k ps i w (omega arith) here (λ j less. before (suc j) (omega arith))))
 
-  written-at_by : (o : Option (List ℕ)) (ps : List (List ℕ × V)) (i : ℕ) (w : V)
-      → position (λ k. option_map_or (bytes_eq k) o false) (keys_of ps) ≡ Some i
-      → option_map_or (λ k. put k w ps) o ps ≡ set_value ps i w
-  written-at_by None ps i w e =
+  -- what is made of the key that a token names, where it stands first at a position
+  named_by : (f : List ℕ → List (List ℕ × V)) (ps qs : List (List ℕ × V)) (i : ℕ)
+      → ((k : List ℕ) → i < length (keys_of ps) → bytes_eq (get_or (keys_of ps) i []) k ≡ true
+      → ((j : ℕ) → j < i → bytes_eq (get_or (keys_of ps) j []) k ≡ false) → f k ≡ qs)
+      → (o : Option (List ℕ)) → position (λ k. option_map_or (bytes_eq k) o false) (keys_of ps) ≡ Some i
+      → option_map_or f o ps ≡ qs
+  named_by f ps qs i made None e =
       absurd (true≢false (sym (position-Some (λ (k : List ℕ). false) (keys_of ps) i [] e).1))
-  written-at_by (Some u) ps i w e =
-      let at = position-Some (λ k. bytes_eq k u) (keys_of ps) i [] e in put-at u ps i w at.0 at.1 at.2
+  named_by f ps qs i made (Some u) e =
+      let at = position-Some (λ k. bytes_eq k u) (keys_of ps) i [] e in made u at.0 at.1 at.2
 
   -- a value that is put under the key that a token names stands at its position
   pub named-written : (t : List ℕ) (ps : List (List ℕ × V)) (i : ℕ) (w : V) → position (names t) (keys_of ps) ≡ Some i
       → option_map_or (λ k. put k w ps) (token_key t) ps ≡ set_value ps i w
-  named-written t ps i w e = written-at_by (token_key t) ps i w e
+  named-written t ps i w e =
+      named_by (λ k. put k w ps) ps (set_value ps i w) i (λ k. put-at k ps i w) (token_key t) e
 
   -- ---- what is left without it
 
@@ -94,18 +102,10 @@ module _ {V : Type 0} where
       let other : bytes_eq p.0 k ≡ false = before 0 (omega arith) in
       rw other (ap (λ qs. p ∷ qs) (cut-at k ps i (omega arith) here (λ j less. before (suc j) (omega arith))))
 
-  cut-at_by : (o : Option (List ℕ)) (ps : List (List ℕ × V)) (i : ℕ)
-      → position (λ k. option_map_or (bytes_eq k) o false) (keys_of ps) ≡ Some i
-      → option_map_or (λ k. cut k ps) o ps ≡ remove ps i
-  cut-at_by None ps i e =
-      absurd (true≢false (sym (position-Some (λ (k : List ℕ). false) (keys_of ps) i [] e).1))
-  cut-at_by (Some u) ps i e =
-      let at = position-Some (λ k. bytes_eq k u) (keys_of ps) i [] e in cut-at u ps i at.0 at.1 at.2
-
   -- without the entry at the position whose key a token names, there are those without its key
   pub named-cut : (t : List ℕ) (ps : List (List ℕ × V)) (i : ℕ) → position (names t) (keys_of ps) ≡ Some i
       → option_map_or (λ k. cut k ps) (token_key t) ps ≡ remove ps i
-  named-cut t ps i e = cut-at_by (token_key t) ps i e
+  named-cut t ps i e = named_by (λ k. cut k ps) ps (remove ps i) i (λ k. cut-at k ps i) (token_key t) e
 
   -- nothing is removed past the end
   pub remove-past : (ps : List (List ℕ × V)) (i : ℕ) → None ≡ slice_get ps i → remove ps i ≡ ps
@@ -113,8 +113,3 @@ module _ {V : Type 0} where
   remove-past [] (suc i) h = refl
   remove-past (p ∷ ps) zero h = absurd (cc)
   remove-past (p ∷ ps) (suc i) h = ap (λ qs. p ∷ qs) (remove-past ps i h)
-
--- the position of a key is that of a token that is this key
-pub position-plain : (t : List ℕ) (ks : List (List ℕ)) → token_key t ≡ Some t
-    → position (λ k. bytes_eq k t) ks ≡ position (names t) ks
-position-plain t ks plain = sym (ap (λ o. position (λ k. option_map_or (bytes_eq k) o false) ks) plain)

@@ -1,9 +1,9 @@
 -- Equal normal numbers are identical.
-use Rattle.std.proofs.Common.{◌≡◌, ◌≤◌, ◌<◌, ℕ, zero, suc, ◌+◌, ◌*◌, ◌^◌, ◌-◌, ◌%◌, ◌/◌, ◌==◌, ◌&&◌, ℤ, pos, negsuc}
+use Rattle.std.proofs.Common.{◌≡◌, ◌≤◌, ◌<◌, ℕ, ◌+◌, ◌*◌, ◌^◌, ◌-◌, ◌%◌, ◌/◌, ◌==◌, ◌&&◌, ℤ, pos, negsuc}
 use Rattle.std.proofs.Common.{Bool, true, IsTrue, refl, sym, ap, ◌∙◌, arith, FitsSigned, w16, ◌⊎◌, inl, inr}
 use Rattle.std.proofs.lemmas.Int.{ints}
-use Rattle.std.proofs.lemmas.Bool.{eqb-true, false≢true, and_parts, or_cases}
-use Rattle.std.proofs.Math.Nat.{mul-mod_left, mul-div_cancel, one-le-pow, zero-mul}
+use Rattle.std.proofs.lemmas.Bool.{eqb-true, false≢true, and_parts, or_cases, cases_order}
+use Rattle.std.proofs.Math.Nat.{mul-mod_left, mul-div_cancel, one-le-pow, zero-mul, eq-zero-or-pos}
 use Rattle.std.proofs.Math.Dec.{lit≤}
 use Rattle.std.proofs.lemmas.Nat.{pow-add}
 use Rattle.std.specs.Bool.{beq}
@@ -65,35 +65,20 @@ not_lower m n e f some ff normal h lt =
     let high : shifted e ≡ 65535 = ap shifted largest in
     omega arith
 
-three_ways : (a b : ℕ) → (a < b) ⊎ ((b < a) ⊎ (a ≡ b))
-three_ways zero zero = inr (inr refl)
-three_ways zero (suc b) = inl (omega arith)
-three_ways (suc a) zero = inr (inl (omega arith))
-three_ways (suc a) (suc b) = next (three_ways a b)
-  where
-    next : (a < b) ⊎ ((b < a) ⊎ (a ≡ b)) → (suc a < suc b) ⊎ ((suc b < suc a) ⊎ (suc a ≡ suc b))
-    next (inl h) = inl (omega arith)
-    next (inr (inl h)) = inr (inl (omega arith))
-    next (inr (inr h)) = inr (inr (ap suc h))
-
 same_parts : (m n : ℕ) (e f : ℤ) → 0 < m → 0 < n → FitsSigned w16 e → FitsSigned w16 f
     → (0 < m → m % 10 ≡ 0 → e ≡ pos 32767) → (0 < n → n % 10 ≡ 0 → f ≡ pos 32767)
     → m * 10 ^ shifted e ≡ n * 10 ^ shifted f → (a b : ℕ) → a ≡ shifted e → b ≡ shifted f
-    → (a < b) ⊎ ((b < a) ⊎ (a ≡ b)) → (m ≡ n) × (e ≡ f)
-same_parts m n e f sm sn fe ff nm nn h a b ea eb (inl lt) = absurd (not_lower m n e f sm ff nm h (omega arith))
-same_parts m n e f sm sn fe ff nm nn h a b ea eb (inr (inl lt)) =
+    → (a ≡ b) ⊎ ((a < b) ⊎ (b < a)) → (m ≡ n) × (e ≡ f)
+same_parts m n e f sm sn fe ff nm nn h a b ea eb (inr (inl lt)) = absurd (not_lower m n e f sm ff nm h (omega arith))
+same_parts m n e f sm sn fe ff nm nn h a b ea eb (inr (inr lt)) =
     absurd (not_lower n m f e sn fe nn (sym h) (omega arith))
-same_parts m n e f sm sn fe ff nm nn h a b ea eb (inr (inr eq)) =
+same_parts m n e f sm sn fe ff nm nn h a b ea eb (inl eq) =
     let s : shifted e ≡ shifted f = sym ea ∙ eq ∙ eb in (
       cancel m n (10 ^ shifted f) (power-positive (shifted f)) (ap (λ t. m * 10 ^ t) (sym s) ∙ h),
       same_exponent e f fe ff s,
     )
 
 -- ---- numbers
-zero_or_some : (m : ℕ) → (m ≡ 0) ⊎ (0 < m)
-zero_or_some zero = inl refl
-zero_or_some (suc m) = inr (omega arith)
-
 both_zero : (p q : Bool) (m n : ℕ) (e f : ℤ) → m ≡ 0 → n ≡ 0 → IsNormal (parts p m e) → IsNormal (parts q n f)
     → parts p m e ≡ parts q n f
 both_zero p q m n e f zm zn nd nc =
@@ -114,7 +99,7 @@ same_scaled p q m n e f rd rc nd nc signs h (inr sm) (inl zn) =
     both_zero p q m n e f (zero_factor m (10 ^ shifted e) (power-positive (shifted e)) none) zn nd nc
 same_scaled p q m n e f rd rc nd nc signs h (inr sm) (inr sn) =
     let (em, ee) = same_parts m n e f sm sn rd.1 rc.1 nd.1 nc.1 h (shifted e) (shifted f) refl refl
-    (three_ways (shifted e) (shifted f)) in
+    (cases_order (shifted e) (shifted f)) in
     rw (signs, em, ee) refl
 
 by_case : (p q : Bool) (m n : ℕ) (e f : ℤ) → InRange (parts p m e) → InRange (parts q n f)
@@ -126,8 +111,8 @@ by_case p q m n e f rd rc nd nc (inl h) =
     both_zero p q m n e f (eqb-true m 0 zm) (eqb-true n 0 zn) nd nc
 by_case p q m n e f rd rc nd nc (inr h) =
     let (sp, sc) = and_parts (beq p q) (scaled m e == scaled n f) h in
-    same_scaled p q m n e f rd rc nd nc ((booleans_Decides p q).0 sp) (eqb-true _ _ sc) (zero_or_some m)
-    (zero_or_some n)
+    same_scaled p q m n e f rd rc nd nc ((booleans_Decides p q).0 sp) (eqb-true _ _ sc) (eq-zero-or-pos m)
+    (eq-zero-or-pos n)
 
 pub one_number : (d c : Decimal) → InRange d → InRange c → IsNormal d → IsNormal c → IsTrue (same_decimal d c) → d ≡ c
 one_number nan nan rd rc nd nc h = refl

@@ -14,7 +14,7 @@ use Rattle.jzon.specs.View.{view, viewed, view_object}
 use Rattle.jzon.proofs.ValueLaws.{view-Object, view-Array, entries-Object, list_of_pairs-pairs_of, viewed-put, viewed-cut}
 use Rattle.jzon.proofs.ValueLaws.{find-viewed, find-view_object, list_of_values-values_of}
 use Rattle.jzon_tools.proofs.ChangeLaws.{found-below, found-none}
-use Rattle.jzon_tools.proofs.NameSteps.{named-entry, named-written}
+use Rattle.jzon_tools.proofs.NameSteps.{entry-at, named-written}
 use Rattle.jzon_tools.specs.Pointer.{index_named, child_of, with_child, token_key, names, tokens_in, tokens_left, tokens_of, value_at, missing, found, and_then}
 use Rattle.jzon_tools.specs.declared.pointer.PointerError.TheVariants.{NoSlash}
 
@@ -73,10 +73,7 @@ member-child o t = member_by (entries_of o) (token_key t)
 pub member-at : (o : Object) (t : List ℕ) (i : Option ℕ) → position (names t) (keys_of (entries_of o)) ≡ i
     → child_of (view_object o) t
     ≡ option_map view (option_map (λ p. p.1) (option_and_then (λ j. slice_get (entries_of o) j) i))
-member-at o t i at =
-    member-child o t
-    ∙ ap (option_map view) (named-entry t (entries_of o)
-    ∙ ap (λ n. option_map (λ p. p.1) (option_and_then (λ j. slice_get (entries_of o) j) n)) at)
+member-at o t i at = member-child o t ∙ ap (option_map view) (entry-at t (entries_of o) i at)
 
 written_by : (ps : List (List ℕ × JsonValue)) (k : Option (List ℕ)) (new : JsonValue)
     → option_map_or (λ j. put j (view new) (list_of_pairs (pairs_of (viewed ps)))) k (list_of_pairs (pairs_of (viewed ps)))

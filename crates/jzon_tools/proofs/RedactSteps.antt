@@ -1,7 +1,6 @@
 -- What is redacted of an array's elements and of an object's members, as lists, and how many entries are hidden there.
-use Rattle.std.proofs.Common.{◌≡◌, ◌+◌, ◌-◌, ◌^◌, ◌≤◌, min, ℕ, List, [], ◌∷◌, map, take, length, get_or, Bool, Option, None, Some, option_map}
+use Rattle.std.proofs.Common.{◌≡◌, ◌+◌, ◌-◌, ◌^◌, min, ℕ, List, [], ◌∷◌, map, take, get_or, Bool, Option, None, Some, option_map}
 use Rattle.std.proofs.Common.{slice_get, refl, sym, ap, ◌∙◌, arith, if◌then◌else◌}
-use Rattle.std.proofs.lemmas.List.{length-map, take_all}
 use Rattle.std.proofs.lemmas.List.Sums.{sum_by-cons, sum_by_more}
 use Rattle.std.proofs.lemmas.Option.{slice_get-map, slice_get_within, slice_get-get_or}
 use Rattle.std.specs.List.{sum_by}
@@ -64,12 +63,6 @@ counted-next f xs i x n m at before is =
     let more : sum_by f (take (i + 1) xs) ≡ sum_by f (take i xs) + f x =
     sum_by_more f xs i x within ∙ ap (λ y. sum_by f (take i xs) + f y) same in
     omega arith
-
--- the sum of all items
-pub counted-all : {A B : Type 0} (f : B → ℕ) (see : A → B) (xs : List A) (i n : ℕ) → length xs ≤ i
-    → n ≡ min (sum_by f (take i (map see xs))) (2 ^ 64 - 1) → n ≡ min (sum_by f (map see xs)) (2 ^ 64 - 1)
-counted-all f see xs i n all is =
-    is ∙ ap (λ ys. min (sum_by f ys) (2 ^ 64 - 1)) (take_all i (map see xs) (simp length-map all))
 
 -- a sum of one member more
 pub member-counted : (names : List (List ℕ)) (i : ℕ) (old new : List (List ℕ × JsonValue))

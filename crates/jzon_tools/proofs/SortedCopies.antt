@@ -2,6 +2,7 @@
 use Rattle.std.proofs.Common.{◌≡◌, ◌≤◌, ◌<◌, ◌+◌, ℕ, zero, suc, List, [], ◌∷◌, ◌++◌, Bool, true, false, cond, Option}
 use Rattle.std.proofs.Common.{None, Some, option_map, refl, sym, ap, ◌∙◌, subst, arith, length, get_or, map, Contains}
 use Rattle.std.proofs.Common.{IsPermutation, IsSortedByKey, Ordering, Less, take, AllPairs, ◌≢◌}
+use Rattle.std.proofs.Math.ListN.{get_or-map}
 use Rattle.std.proofs.lemmas.List.{length-map}
 use Rattle.std.specs.Borrow.{Bor}
 use Rattle.std.specs.List.{AllByRecursion, IsDistinct}
@@ -223,11 +224,6 @@ module _ (leaf : Value → Value) where
       ap pairs_of whole ∙ sorted_copies ps qs dp dq same sorted
 
 -- ---- a value among entries in another order is no larger than the largest
-at-pointed : (es : List Entry) (i : ℕ) (e : Entry) → get_or (map pointed es) i (pointed e) ≡ pointed (get_or es i e)
-at-pointed [] i e = refl
-at-pointed (x ∷ es) zero e = refl
-at-pointed (x ∷ es) (suc i) e = at-pointed es i e
-
 size-entry : (ps qs : List (List ℕ × JsonValue)) (q : List ℕ × JsonValue) → IsPermutation ps qs → Contains qs q
     → size q.1 ≤ largest_under ps
 size-entry ps qs q same c =
@@ -240,4 +236,4 @@ pub size-pointed : (ps : List (List ℕ × JsonValue)) (es : List Entry) (i : �
     → e ≡ get_or es i e → IsPermutation ps (map pointed es) → size e.1.now ≤ largest_under ps
 size-pointed ps es i e lt at same =
     size-entry ps (map pointed es) (pointed e) same
-    (i, omega (arith, lt, length-map es pointed), at-pointed es i e ∙ ap pointed (sym at))
+    (i, omega (arith, lt, length-map es pointed), get_or-map pointed es i e ∙ ap pointed (sym at))

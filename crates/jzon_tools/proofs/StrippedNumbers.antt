@@ -1,9 +1,10 @@
 -- The normal form of a number is normal and equal to it.
-use Rattle.std.proofs.Common.{◌≡◌, ◌≤◌, ◌<◌, ℕ, zero, suc, ◌+◌, ◌*◌, ◌^◌, ◌/◌, ◌%◌, ◌==◌, ◌&&◌, ◌||◌, ℤ, pos, negsuc, not}
+use Rattle.std.proofs.Common.{◌≡◌, ◌≤◌, ◌<◌, ℕ, zero, suc, ◌+◌, ◌*◌, ◌^◌, ◌/◌, ◌%◌, ◌==◌, ◌&&◌, ℤ, pos, negsuc, not}
 use Rattle.std.proofs.Common.{Bool, true, false, cond, ◌+ℤ◌}
 use Rattle.std.proofs.Common.{IsTrue, refl, sym, ap, ◌∙◌, subst, arith, FitsSigned, w16, ◌⊎◌, inl, inr}
 use Rattle.std.proofs.lemmas.Int.{ints}
-use Rattle.std.proofs.lemmas.Bool.{eqb-true, false≢true, and_from, false_from_ne_true}
+use Rattle.std.proofs.lemmas.Bool.{eqb-true, false≢true, and_from, or_right, false_from_ne_true}
+use Rattle.std.proofs.Math.Bool.{and-false}
 use Rattle.std.proofs.lemmas.Bool.Decides.{Decides-int_eq}
 use Rattle.std.proofs.lemmas.Nat.{pow-add}
 use Rattle.std.proofs.lemmas.Bool.{eq-eqb}
@@ -13,7 +14,7 @@ use Rattle.jzon.specs.Value.{number}
 use Rattle.jzon.specs.SameLaws.{same_equiv}
 use Rattle.std.specs.Ordering.{int_eq}
 use Rattle.std.specs.Cmp.{booleans_Decides}
-use Rattle.jzon.specs.Decimal.{Decimal, nan, parts, shifted, scaled, is_nan, parts_of, same_decimal}
+use Rattle.jzon.specs.Decimal.{Decimal, nan, parts, shifted, scaled, same_decimal}
 use Rattle.jzon.specs.Lawful.{InRange}
 use Rattle.jzon_tools.specs.Canonical.{stripped, normal_number}
 use Rattle.jzon_tools.proofs.NormalNumbers.{IsNormal, one_number}
@@ -55,10 +56,6 @@ not_divided : (m : ℕ) → (m % 10 == 0) ≡ false → m % 10 ≡ 0 → ⊥
 not_divided m e h = false≢true (sym e ∙ ap (λ x. x == 0) h)
 
 -- ---- the steps of stripping
-closed : (b : Bool) (x y : ℕ × ℤ) → cond (b && false) x y ≡ y
-closed true x y = refl
-closed false x y = refl
-
 pub stripped-none : (m : ℕ) (e : ℤ) → stripped 0 m e ≡ (m, e)
 unfolding stripped
 stripped-none m e = refl
@@ -74,8 +71,7 @@ unfolding stripped
 stripped-end zero m e h = refl
 stripped-end (suc n) m e (inl whole) = rw (false_from_ne_true (m % 10 == 0) (λ t. whole (eqb-true (m % 10) 0 t))) refl
 stripped-end (suc n) m e (inr largest) =
-    rw ((Decides-int_eq e (pos 32767)).1 largest)
-    (closed (m % 10 == 0) (stripped n (m / 10) (e +ℤ pos 1)) (m, e))
+    rw ((Decides-int_eq e (pos 32767)).1 largest, and-false (m % 10 == 0)) refl
 
 -- ---- what is stripped
 strip : (n m : ℕ) (e : ℤ) → 0 < m → m < 10 ^ n → FitsSigned w16 e → IsStripped m e (stripped n m e).0 (stripped n m e).1
@@ -127,10 +123,6 @@ pub record IsFormOf (d c : Decimal) : Type 0 where
   pub normal : IsNormal c
   pub equal : same_decimal c d ≡ true
 
-or_right : (b c : Bool) → c ≡ true → (b || c) ≡ true
-or_right true c h = refl
-or_right false c h = h
-
 form_of_parts : (p : Bool) (m : ℕ) (e : ℤ) → InRange (parts p m e) → (b : Bool) → (m == 0) ≡ b
     → IsFormOf (parts p m e) (cond b (parts true 0 (pos 0)) (parts p (stripped 20 m e).0 (stripped 20 m e).1))
 unfolding scaled
@@ -163,10 +155,3 @@ one_number_form d c rd rc h =
     one_number (normal_number d) (normal_number c) x.in_range y.in_range x.normal y.normal
     (same_equiv.congr (number (normal_number d)) (number d) (number (normal_number c)) x.equal
     ∙ same_equiv.congr (number d) (number c) (number (normal_number c)) h ∙ back)
-
--- the normal form of a number that is neither NaN nor a zero, by its parts
-pub normal-some : (n : Decimal) → is_nan n ≡ false → ((parts_of n).1 ≡ 0 → ⊥)
-    → parts (parts_of n).0 (stripped 20 (parts_of n).1 (parts_of n).2).0 (stripped 20 (parts_of n).1 (parts_of n).2).1
-    ≡ normal_number n
-normal-some nan h some = absurd (false≢true (sym h))
-normal-some (parts p m e) h some = rw (false_from_ne_true (m == 0) (λ t. some (eqb-true m 0 t))) refl

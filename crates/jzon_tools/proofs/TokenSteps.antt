@@ -3,6 +3,7 @@ use Rattle.std.proofs.Common.{◌≡◌, ◌≢◌, ℕ, suc, ◌<◌, List, [],
 use Rattle.std.proofs.Common.{refl, sym, ap, ◌∙◌, arith, append_assoc, append-nil, ne_eqb}
 use Rattle.std.proofs.Common.{Bor, drop, take, subst}
 use Rattle.std.proofs.lemmas.List.{take-append-drop}
+use Rattle.std.proofs.lemmas.Iterator.Adapters.{option_map_id}
 use Rattle.std.proofs.lemmas.Str.Pattern.{NoCharPasses-char, drop_at_char}
 use Rattle.std.specs.Option.{MatchOption}
 use Rattle.std.specs.Str.Pattern.{RFindsChar, SplitsAroundMatch}
@@ -64,10 +65,6 @@ token_key-plain (x ∷ xs) h =
     rw (ne_eqb x 126 (h 0 (omega arith)))
     (ap (option_map (λ k. x ∷ k)) (token_key-plain xs (λ i less. h (suc i) (omega arith))))
 
-none_before : (o : Option (List ℕ)) → o ≡ option_map (λ k. [] ++ k) o
-none_before None = refl
-none_before (Some k) = refl
-
 one_before : (x : ℕ) (xs : List ℕ) (o : Option (List ℕ))
     → option_map (λ k. x ∷ k) (option_map (λ k. xs ++ k) o) ≡ option_map (λ k. (x ∷ xs) ++ k) o
 one_before x xs None = refl
@@ -75,7 +72,7 @@ one_before x xs (Some k) = refl
 
 pub token_key-part : (xs rest : List ℕ) → Lacks 126 xs
     → token_key (xs ++ rest) ≡ option_map (λ k. xs ++ k) (token_key rest)
-token_key-part [] rest h = none_before (token_key rest)
+token_key-part [] rest h = sym (option_map_id (token_key rest))
 token_key-part (x ∷ xs) rest h =
     rw (ne_eqb x 126 (h 0 (omega arith)))
     (ap (option_map (λ k. x ∷ k)) (token_key-part xs rest (λ i less. h (suc i) (omega arith)))

@@ -1,25 +1,17 @@
-use Rattle.std.proofs.Common.{◌≤◌, ◌∙◌, List, ℕ, sym, ap, subst, arith, map, IsPermutation}
-use Rattle.std.specs.Borrow.{Bor}
-use Rattle.std.specs.List.Sorted.{IsStrictlySortedBy}
-use Rattle.std.specs.Cmp.Lexicographic.{slice_cmp}
-use Rattle.std.specs.Ordering.{nat_cmp}
+use Rattle.std.proofs.Common.{◌≤◌, ◌∙◌, ap, arith}
 use Rattle.jzon.specs.Entries.{entries_of}
-use Rattle.jzon.specs.JsonValue.{JsonValue}
 use Rattle.jzon.specs.Measure.{size, largest_under}
 use Rattle.jzon.specs.View.{view, viewed}
 use Rattle.jzon.proofs.ValueLaws.{viewed-put}
-use Rattle.jzon_tools.specs.Canonical.{pointed}
-use Rattle.jzon_tools.proofs.SortedCopies.{copied-next, copied-all, keys_at, size-pointed}
+use Rattle.jzon_tools.proofs.SortedCopies.{copied-next, copied-all, size-pointed}
 use Rattle.jzon_tools.proofs.canonical.+arranged.Goals as goal
 
 pub arranged_object-arranged-requires : goal.arranged_object-arranged-requires
 arranged_object-arranged-requires t c =
     let ps = entries_of c.args.object.now in
-    let es = c.deref-key-items.result.now in
     let small : size c.loop-key-item.result.1.now ≤ largest_under ps =
-    size-pointed ps es c.loop-key.key-index c.loop-key-item.result c.loop-key-test.true c.loop-key-item.is
-    (subst (λ (xs : List (Bor (List ℕ) × Bor JsonValue)). IsPermutation ps (map pointed xs))
-    (sym c.deref-key-items.ensures.value) c.in_ok-entries.ensures.same) in
+    size-pointed ps c.deref-key-items.result.now c.loop-key.key-index c.loop-key-item.result c.loop-key-test.true
+    c.loop-key-item.is (rw c.deref-key-items.ensures.value c.in_ok-entries.ensures.same) in
     (omega (arith, small, c.decreases), tt)
 
 pub arranged_object-loop-key-preserved : goal.arranged_object-loop-key-preserved
@@ -32,13 +24,7 @@ arranged_object-loop-key-preserved t c =
 
 pub arranged_object-returns-clause-copy : goal.arranged_object-returns-clause-copy
 arranged_object-returns-clause-copy t c =
-    let ps = entries_of c.args.object.now in
-    let es = c.deref-key-items.result.now in
-    let same = sym c.deref-key-items.ensures.value in
-    copied-all (λ v. v) ps es c.loop-key.key-index (viewed (entries_of c.loop-key.copy))
-    c.loop-key-test.false
-    (subst (λ (xs : List (Bor (List ℕ) × Bor JsonValue)). IsPermutation ps (map pointed xs)) same
-    c.in_ok-entries.ensures.same)
-    (subst (λ (xs : List (Bor (List ℕ) × Bor JsonValue)). IsStrictlySortedBy (slice_cmp nat_cmp) (keys_at xs)) same
-    c.in_ok-entries.ensures.sorted)
-    c.loop-key.invariant
+    copied-all (λ v. v) (entries_of c.args.object.now) c.deref-key-items.result.now c.loop-key.key-index
+    (viewed (entries_of c.loop-key.copy)) c.loop-key-test.false
+    (rw c.deref-key-items.ensures.value c.in_ok-entries.ensures.same)
+    (rw c.deref-key-items.ensures.value c.in_ok-entries.ensures.sorted) c.loop-key.invariant

@@ -1,17 +1,13 @@
-use Rattle.std.proofs.Common.{◌≤◌, ◌∙◌, List, [], ◌∷◌, sym, refl, ap, subst, arith, map, IsPermutation}
-use Rattle.std.specs.List.Sorted.{IsStrictlySortedBy}
-use Rattle.std.specs.Cmp.Lexicographic.{slice_cmp}
-use Rattle.std.specs.Ordering.{nat_cmp}
+use Rattle.std.proofs.Common.{◌≤◌, ◌∙◌, [], ◌∷◌, refl, ap, arith}
 use Rattle.jzon.specs.Entries.{entries_of}
 use Rattle.jzon.specs.Measure.{size, largest_under}
 use Rattle.jzon.specs.Text.{compact}
 use Rattle.jzon.specs.Value.{object}
-use Rattle.jzon_tools.specs.Canonical.{pointed}
 use Rattle.jzon_tools.proofs.CanonicalPieces.{none_written, item_written, items_written, adds_both, adds_equal}
 use Rattle.jzon_tools.proofs.CanonicalPieces.{item_text, entry_text, item_nan, entry_nan, array_written, no_nan_more}
 use Rattle.jzon_tools.proofs.CanonicalPieces.{no_nan_all, array_nan, object_nan}
-use Rattle.jzon_tools.proofs.CanonicalPieces.{Entry, object_written, sorted_whole}
-use Rattle.jzon_tools.proofs.SortedCopies.{keys_at, size-pointed}
+use Rattle.jzon_tools.proofs.CanonicalPieces.{object_written, sorted_whole}
+use Rattle.jzon_tools.proofs.SortedCopies.{size-pointed}
 use Rattle.jzon_tools.proofs.canonical.+write.Goals as goal
 
 pub write_array-loop-index-init : goal.write_array-loop-index-init
@@ -56,8 +52,7 @@ write_object-write_value-requires g t c κs within =
     let es = c.deref-entry-items.result.now in
     let small : size c.entry-item.result.1.now ≤ largest_under ps =
     size-pointed ps es c.loop-index.index c.entry-item.result c.loop-index-test.true c.entry-item.is
-    (subst (λ (xs : List Entry). IsPermutation ps (map pointed xs)) (sym c.deref-entry-items.ensures.value)
-    c.in_ok-entries.ensures.same) in
+    (rw c.deref-entry-items.ensures.value c.in_ok-entries.ensures.same) in
     (omega (arith, small, c.decreases), within)
 
 pub write_object-loop-index-preserved : goal.write_object-loop-index-preserved
@@ -79,23 +74,18 @@ write_object-loop-index-preserved g t c =
 
 pub write_object-returns-clause-text : goal.write_object-returns-clause-text
 write_object-returns-clause-text g t c =
-    let ps = entries_of c.args.object.now in
     let es = c.deref-entry-items.result.now in
     let so_far = c.loop-index.invariant in
-    let same = subst (λ (xs : List Entry). IsPermutation ps (map pointed xs)) (sym c.deref-entry-items.ensures.value)
-    c.in_ok-entries.ensures.same in
-    let sorted = subst (λ (xs : List Entry). IsStrictlySortedBy (slice_cmp nat_cmp) (keys_at xs))
-    (sym c.deref-entry-items.ensures.value) c.in_ok-entries.ensures.sorted in
+    let whole = sorted_whole (entries_of c.args.object.now) es
+    (rw c.deref-entry-items.ensures.value c.in_ok-entries.ensures.same)
+    (rw c.deref-entry-items.ensures.value c.in_ok-entries.ensures.sorted) in
     adds_equal _ _ _ _
     (items_written entry_text 123 125 es c.loop-index.index c.loop-index-test.false so_far.0.0 so_far.0.2
-    ∙ object_written es ∙ ap (λ qs. compact (object qs)) (sorted_whole ps es same sorted))
+    ∙ object_written es ∙ ap (λ qs. compact (object qs)) whole)
     (adds_both _ _ _ _ _ so_far.0.1 c.in_ok-write_char-3.ensures.bytes)
 
 pub write_object-returns-clause-nan : goal.write_object-returns-clause-nan
 write_object-returns-clause-nan g t c =
-    let ps = entries_of c.args.object.now in
     let es = c.deref-entry-items.result.now in
-    object_nan ps es
-    (subst (λ (xs : List Entry). IsPermutation ps (map pointed xs)) (sym c.deref-entry-items.ensures.value)
-    c.in_ok-entries.ensures.same)
+    object_nan (entries_of c.args.object.now) es (rw c.deref-entry-items.ensures.value c.in_ok-entries.ensures.same)
     ∙ no_nan_all entry_nan es c.loop-index.index c.loop-index-test.false c.loop-index.invariant.1

@@ -1,4 +1,4 @@
-use Rattle.std.proofs.Common.{length, refl, sym, ap, arith}
+use Rattle.std.proofs.Common.{refl, arith}
 use Rattle.std.proofs.lemmas.Str.Pattern.{strip_prefix_char}
 use Rattle.jzon_tools.proofs.TokenSteps.{no_slash}
 use Rattle.jzon_tools.proofs.pointer.after_slash.Goals as goal
@@ -8,8 +8,3 @@ returns-in-None-clause-none c =
     let other =
     rw c.in-None.is at (strip_prefix_char 47 c.args.path.now c.strip_prefix.result c.strip_prefix.ensures.cases (omega arith)) in
     (refl, no_slash c.args.path.now (grind arith) other)
-
-pub returns-in-Some-clause-rest : goal.returns-in-Some-clause-rest
-returns-in-Some-clause-rest c =
-    sym (ap length
-    (rw c.in-Some.is at (strip_prefix_char 47 c.args.path.now c.strip_prefix.result c.strip_prefix.ensures.cases (omega arith))))

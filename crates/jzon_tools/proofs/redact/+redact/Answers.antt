@@ -1,17 +1,14 @@
-use Rattle.std.proofs.Common.{◌≡◌, ◌≤◌, ◌++◌, ◌-◌, ◌^◌, min, ℕ, List, [], length, drop, take, map, Some, option_map, slice_get}
-use Rattle.std.proofs.Common.{refl, sym, ap, ◌∙◌, arith, append-nil}
-use Rattle.std.proofs.lemmas.List.{take_all}
+use Rattle.std.proofs.Common.{◌≡◌, ◌≤◌, ◌-◌, ◌^◌, min, ℕ, List, length, map, Some, option_map, slice_get}
+use Rattle.std.proofs.Common.{refl, sym, ap, ◌∙◌, arith}
 use Rattle.std.proofs.lemmas.Option.{slice_get-map, slice_get_read}
-use Rattle.std.proofs.Math.ListN.{drop_of_length-le}
-use Rattle.std.specs.List.{sum_by}
 use Rattle.jzon.specs.Entries.{entries_of}
 use Rattle.jzon.specs.JsonValue.{JsonValue}
 use Rattle.jzon.specs.Measure.{size, largest, largest_under}
 use Rattle.jzon.specs.View.{view}
 use Rattle.jzon.proofs.InPlace.{seen_member, unwritten, written-next, written-all, size-element, size-member}
 use Rattle.jzon.proofs.InPlace.{member-present}
-use Rattle.jzon_tools.specs.Redact.{hidden_count, hidden_count_member, redacted, redacted_member}
-use Rattle.jzon_tools.proofs.RedactSteps.{counted-all, counted-next, member-counted, member-redacted}
+use Rattle.jzon_tools.specs.Redact.{hidden_count, redacted, redacted_member}
+use Rattle.jzon_tools.proofs.RedactSteps.{counted-next, member-counted, member-redacted}
 use Rattle.jzon_tools.proofs.redact.+redact.Goals.{redact_members-in-Some, redact_members-in_default}
 use Rattle.jzon_tools.proofs.redact.+redact.Goals as goal
 
@@ -48,30 +45,6 @@ redact_elements-loop-item-preserved t c =
           c.loop-item.invariant.counted
           (c.redact.ensures.count ∙ ap (λ v. min (hidden_count names (view v)) (2 ^ 64 - 1)) (sym c.item-item.is));
     }
-
-pub redact_elements-returns-clause-value : goal.redact_elements-returns-clause-value
-redact_elements-returns-clause-value t c =
-    let items = c.args.items.now.items in
-    let names = map (λ n. n.now) c.args.names.now in
-    let seen = written-all view (redacted names) c.loop-item.item-index c.deref_mut-item-items.result.now
-    c.loop-item.item-items c.loop-item.invariant.written c.loop-item-test.false in
-    let all : length items ≡ length c.loop-item.item-items =
-    omega (arith, ap length c.deref_mut-item-items.ensures.value) in
-    let none : drop (length c.loop-item.item-items) items ≡ [] = drop_of_length-le items (omega arith) in
-    let whole : take c.args.items.now.len (c.loop-item.item-items ++ drop (length c.loop-item.item-items) items)
-    ≡ c.loop-item.item-items =
-    ap (λ rest. take c.args.items.now.len (c.loop-item.item-items ++ rest)) none
-    ∙ ap (take c.args.items.now.len) (append-nil c.loop-item.item-items)
-    ∙ take_all c.args.items.now.len c.loop-item.item-items (omega (arith, c.deref_mut-item-items.ensures.len)) in
-    ap (λ vs. map view vs) whole ∙ seen
-    ∙ ap (λ vs. map (redacted names) (map view vs)) c.deref_mut-item-items.ensures.value
-
-pub redact_elements-returns-clause-count : goal.redact_elements-returns-clause-count
-redact_elements-returns-clause-count t c =
-    let names = map (λ n. n.now) c.args.names.now in
-    counted-all (hidden_count names) view c.deref_mut-item-items.result.now c.loop-item.item-index c.loop-item.count
-    c.loop-item-test.false c.loop-item.invariant.counted
-    ∙ ap (λ xs. min (sum_by (hidden_count names) (map view xs)) (2 ^ 64 - 1)) c.deref_mut-item-items.ensures.value
 
 pub redact_members-redact_member-requires : goal.redact_members-redact_member-requires
 redact_members-redact_member-requires t c =
@@ -112,9 +85,3 @@ redact_members-returns-clause-value t c =
     written-all seen_member (redacted_member (map (λ n. n.now) c.args.names.now)) c.loop-index.index
     (entries_of c.args.object.now) (entries_of c.loop-index.object) c.loop-index.invariant.written
     (omega (arith, c.len-index-end.ensures.len, c.loop-index-test.false))
-
-pub redact_members-returns-clause-count : goal.redact_members-returns-clause-count
-redact_members-returns-clause-count t c =
-    counted-all (hidden_count_member (map (λ n. n.now) c.args.names.now)) seen_member (entries_of c.args.object.now)
-    c.loop-index.index c.loop-index.count (omega (arith, c.len-index-end.ensures.len, c.loop-index-test.false))
-    c.loop-index.invariant.counted

@@ -4,16 +4,10 @@ use Rattle.jzon_tools.proofs.NameSteps.{named-entry}
 use Rattle.jzon_tools.proofs.token.member.Goals as goal
 
 pub returns-in_err-position_of : goal.returns-in_err-position_of
-returns-in_err-position_of c =
-    let named = named-entry c.args.token.now (entries_of c.args.object.now) in
-    search (rules, named)
+returns-in_err-position_of c = search (rules, named-entry c.args.token.now (entries_of c.args.object.now))
 
 pub returns-in_err-_key : goal.returns-in_err-_key
-returns-in_err-_key c =
-    let named = named-entry c.args.token.now (entries_of c.args.object.now) in
-    search (rules, named)
+returns-in_err-_key c = search (rules, named-entry c.args.token.now (entries_of c.args.object.now))
 
 pub returns : goal.returns
-returns c =
-    let named = named-entry c.args.token.now (entries_of c.args.object.now) in
-    search (rules, named)
+returns c = search (rules, named-entry c.args.token.now (entries_of c.args.object.now))

@@ -1,13 +1,10 @@
 use Rattle.std.proofs.Common.{[], flat_map, refl, sym, ap, ◌∙◌, map-id}
-use Rattle.std.proofs.Output.{writes_in_calls_nil, has_written_append, has_written_of_eq}
+use Rattle.std.proofs.Output.{has_written_append, has_written_of_eq}
 use Rattle.std.proofs.lemmas.Iterator.{YieldsList-from_chars}
 use Rattle.std.proofs.lemmas.Iterator.Consumers.{YieldsList-end}
 use Rattle.std.proofs.lemmas.List.{flat_map_more}
 use Rattle.jzon_tools.specs.DecodeText.{shown_char}
 use Rattle.jzon_tools.proofs.decode.shown.show_text.Goals as goal
-
-pub loop-ch-init : goal.loop-ch-init
-loop-ch-init g c = λ plain. record { wrote = writes_in_calls_nil _ _; plain = plain }
 
 pub loop-ch-preserved : goal.loop-ch-preserved
 loop-ch-preserved g c = λ plain.

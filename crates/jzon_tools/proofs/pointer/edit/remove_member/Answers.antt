@@ -1,11 +1,9 @@
-use Rattle.std.proofs.Common.{◌≡◌, None, Some, option_map, option_and_then, slice_get, refl, sym, ap, ◌∙◌}
+use Rattle.std.proofs.Common.{None, Some, option_map, refl, sym, ap, ◌∙◌}
 use Rattle.jzon.specs.Entries.{entries_of}
 use Rattle.jzon.specs.Value.{object as seen, pairs_of}
 use Rattle.jzon.specs.View.{view, viewed}
-use Rattle.jzon_tools.specs.Pointer.{token_key}
-use Rattle.jzon.specs.PairList.{find}
 use Rattle.jzon_tools.proofs.EditSteps.{member-removed}
-use Rattle.jzon_tools.proofs.NameSteps.{named-cut, named-entry, remove-past}
+use Rattle.jzon_tools.proofs.NameSteps.{entry-at, named-cut, remove-past}
 use Rattle.jzon_tools.proofs.PlaceSteps.{member-at}
 use Rattle.jzon_tools.proofs.pointer.edit.remove_member.Goals as goal
 
@@ -17,10 +15,7 @@ returns-in_err-position-clause-old c =
 pub returns-in_err-position-clause-new : goal.returns-in_err-position-clause-new
 returns-in_err-position-clause-new c =
     let token = c.args.token.now in
-    let es = entries_of c.args.object.now in
-    let there : option_and_then (λ k. find k es) (token_key token) ≡ None =
-    named-entry token es
-    ∙ ap (λ i. option_map (λ p. p.1) (option_and_then (λ j. slice_get es j) i)) (sym c.in_err-position.ensures) in
+    let there = entry-at token (entries_of c.args.object.now) None (sym c.in_err-position.ensures) in
     rw c.from_residual.ensures (member-removed c.args.object.now token None _ there refl)
 
 pub returns-in_err-_key-clause-old : goal.returns-in_err-_key-clause-old
@@ -32,18 +27,15 @@ returns-in_err-_key-clause-old c =
 pub returns-in_err-_key-clause-new : goal.returns-in_err-_key-clause-new
 returns-in_err-_key-clause-new c =
     let token = c.args.token.now in
-    let es = entries_of c.args.object.now in
-    let there : option_and_then (λ k. find k es) (token_key token) ≡ None =
-    named-entry token es
-    ∙ ap (λ i. option_map (λ p. p.1) (option_and_then (λ j. slice_get es j) i)) (sym c.in_ok-position.ensures)
+    let i = c.in_ok-position.position in
+    let there = entry-at token (entries_of c.args.object.now) (Some i) (sym c.in_ok-position.ensures)
     ∙ ap (option_map (λ p. p.1)) (sym c.in_err-_key.ensures.entry) in
     rw c.from_residual-in_err-_key.ensures (member-removed c.args.object.now token None _ there refl)
 
 pub returns-in_err-_key-clause-kept : goal.returns-in_err-_key-clause-kept
 returns-in_err-_key-clause-kept c = λ none.
-    let es = entries_of c.args.object.now in
-    ap (λ ps. seen (pairs_of (viewed ps)))
-    (c.in_err-_key.ensures.after ∙ remove-past es c.in_ok-position.position c.in_err-_key.ensures.entry)
+    ap (λ ps. seen (pairs_of (viewed ps))) (c.in_err-_key.ensures.after
+    ∙ remove-past (entries_of c.args.object.now) c.in_ok-position.position c.in_err-_key.ensures.entry)
 
 pub returns-clause-old : goal.returns-clause-old
 returns-clause-old c =
@@ -56,8 +48,6 @@ returns-clause-new c =
     let es = entries_of c.args.object.now in
     let i = c.in_ok-position.position in
     let at = sym c.in_ok-position.ensures in
-    let there : option_and_then (λ k. find k es) (token_key token) ≡ Some c.in_ok-_key.old =
-    named-entry token es ∙ ap (λ i. option_map (λ p. p.1) (option_and_then (λ j. slice_get es j) i)) at
-    ∙ ap (option_map (λ p. p.1)) (sym c.in_ok-_key.ensures.entry) in
+    let there = entry-at token es (Some i) at ∙ ap (option_map (λ p. p.1)) (sym c.in_ok-_key.ensures.entry) in
     member-removed c.args.object.now token (Some c.in_ok-_key.old) _ there
     (named-cut token es i at ∙ sym c.in_ok-_key.ensures.after)
