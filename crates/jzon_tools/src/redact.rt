@@ -17,7 +17,8 @@ use jzon::object::Object;
 use jzon::short::Short;
 
 /// Replaces the value of each entry whose name is one of `names` by the string `***`, at any
-/// depth. Returns how many values it replaced, or `usize::MAX` if there were more.
+/// depth. Returns how many values it replaced, or `usize::MAX` if there were more. Compares each key
+/// with each name.
 #[cycle(redact)]
 #[tactic(auto, using(crate::proofs::RedactSteps::redaction))]
 pub fn redact(value: &mut JsonValue, names: &[&str]) -> usize
