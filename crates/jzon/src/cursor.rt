@@ -80,7 +80,7 @@ impl<'a> Cursor<'a> {
     /// Moves past the opening bracket that comes next, inside of `depth` containers; of an empty
     /// container, past the closing one too, and returns `true`. Of another one, fails at the end of
     /// the text (`Stop::At`), and else if `depth` is the most that the reading allows
-    /// (`Stop::Limit`, at the first character inside).
+    /// (`Stop::Limit`).
     #[inline(always)]
     pub(crate) fn open_container(&mut self, kind: ContainerKind, depth: usize) -> Result<bool>
         requires room { depth ≤ self.old.reading.depth }

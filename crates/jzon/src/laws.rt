@@ -1,7 +1,6 @@
 //! Laws on texts, their trees and their values, for every reading: RFC 8259 with the project's own
 //! rules (`crates/jzon/CALLING.md`, "Laws"). These functions do nothing; each law is a function's
-//! contract, which a proof uses as CALLING.md, "How a law is called", says. A program needs none of
-//! them.
+//! contract, which a proof uses as CALLING.md, "How a law is called", says.
 
 ghost use Rattle.jzon.specs.Exact.{ExactNumbers, InexactNumbers};
 ghost use Rattle.jzon.specs.Laws.{OneReading, OneText, DigitBreaches, OneFault, NumberText, Redump, StrictStyles, ReadsBack};

@@ -43,8 +43,8 @@ impl fmt::Display for LocatedError {
 
 impl std::error::Error for LocatedError {}
 
-/// So that `?` works in a `main` that returns an `io::Result`. The message is what `Display` prints,
-/// for a text's error at most 74 bytes; the kind is that of the error alone.
+/// So that `?` works in a `main` that returns an `io::Result`. The message is what `Display` prints;
+/// the kind is that of the error alone.
 impl From<LocatedError> for io::Error {
     ghost from_gives = { λ l i. error_kind i ≡ io_kind l.error };
 

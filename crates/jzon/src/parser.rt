@@ -73,9 +73,9 @@ pub fn parse_as(alloc: Global, source: &str, reading: &Reading) -> Result<JsonVa
     }
 }
 
-/// Does what `parse_as` does; an error has its place in the text too. The place of a repeated key is
-/// that of its opening quote, of a number with too many digits that of the first digit too many, and
-/// of two escapes that mean no character that of their last digit.
+/// Does what `parse_as` does; an error has its place in the text too. That of a repeated key is its
+/// opening quote, of a number with too many digits the first too many, and of two escapes that mean
+/// no character their last digit.
 pub fn parse_located(
     alloc: Global,
     source: &str,

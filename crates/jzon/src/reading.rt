@@ -50,8 +50,7 @@ impl Reading {
     };
 
     /// The reading with these settings, not exact; `None` if `depth` is above 512. At depth 0 a text
-    /// may be a primitive or an empty container; at depth 1 there may be primitives and empty
-    /// containers in a container.
+    /// may be a primitive or an empty container.
     pub fn new(strict: bool, depth: u16) -> Option<Reading>
         ensures { SomeIff result (depth ≤ 512) (record { strict = strict; depth = depth; exact = false }) }
     {
@@ -62,8 +61,8 @@ impl Reading {
         reading.with_depth(depth)
     }
 
-    /// This reading with another depth; `None` if `depth` is above 512. For example, a shallow exact
-    /// reading is `Reading::USUAL.with_exact_numbers().with_depth(16)`.
+    /// This reading with another depth; `None` if `depth` is above 512. A shallow exact reading is
+    /// `Reading::USUAL.with_exact_numbers().with_depth(16)`.
     pub fn with_depth(self, depth: u16) -> Option<Reading>
         ensures { SomeIff result (depth ≤ 512) (record self { depth = depth }) }
     {
@@ -84,8 +83,7 @@ impl Reading {
         }
     }
 
-    /// Whether a number is rejected that would be read with another value than its digits and
-    /// exponent spell.
+    /// Whether numbers must be exact, as `with_exact_numbers` says.
     pub fn exact_numbers(&self) -> bool
         ensures { result ≡ self.now.exact }
     {
@@ -110,7 +108,7 @@ impl Reading {
     /// Whether the value contains no NaN and nests no deeper than this reading allows. If so, this
     /// reading reads its compact and pretty texts as values equal to it (`laws::reads_back`).
     ///
-    /// Goes over the value up to a NaN or a container that is too deep, and allocates nothing.
+    /// Ends at a NaN or a container that is too deep. Allocates nothing.
     pub fn admits(&self, value: &JsonValue) -> bool
         ensures { IsTrue result ↔ IsReadable self.now (view value.now) }
     {

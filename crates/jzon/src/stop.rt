@@ -1,5 +1,5 @@
-//! Why the parser stops before the end of a text, and the error with line and column that is
-//! returned for it (docs/RULES.md, "Which error is reported").
+//! Why the parser stops before the end of a text, and the error that is returned for it
+//! (docs/RULES.md, "Which error is reported").
 
 ghost use Rattle.std.specs.Prelude.{◌≡◌, ◌+◌, ◌≤◌, count_by, drop, chars, length, take};
 ghost use Rattle.std.specs.Str.{IsCharBoundary};

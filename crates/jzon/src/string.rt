@@ -35,8 +35,8 @@ pub(crate) struct Spelled {
 
 impl Spelled {
     /// The contents of the string whose opening quote is before `start`, and a string that begins
-    /// with them: all of the source from there on, or of the buffer. From the second string a short
-    /// one is copied by a fixed number of bytes, which is faster.
+    /// with them, by which a short one is copied faster: all of the source from there on, or of the
+    /// buffer.
     pub(crate) fn text<'a>(
         self,
         source: &'a str,

@@ -5,8 +5,8 @@ ghost use Rattle.jzon_tree.specs.declared.value.JsonValue.{JsonValue};
 
 use jzon_tree::value::JsonValue;
 
-/// What takes a value that is read. Functions that read a value put it into the target themselves,
-/// because a value that is returned is moved from call to call.
+/// What takes a value that is read. What reads a value puts it there, because a value that is
+/// returned is moved from call to call.
 pub(crate) trait Target {
     // The target can take a value.
     ghost has_room: { Self → Type 0 };

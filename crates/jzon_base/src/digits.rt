@@ -48,10 +48,9 @@ pub enum NumberFault {
     OutOfRange(usize),
 }
 
-/// The mantissa and the exponent of a number, by its digits before the point, after it, and of its
-/// exponent, each of which may be empty. `number` is what `scan` returns for the digits before and
-/// after the point as one text, and `written` for those of the exponent. `None` if these are more
-/// than `ALWAYS_KEPT` or `NEVER_CLAMPED` digits: then `read_digits` reads them.
+/// What `read_digits` returns, if these are at most `ALWAYS_KEPT` and `NEVER_CLAMPED` digits; else
+/// `None`. `number` is what `scan` returns for the digits before and after the point as one text,
+/// and `written` for those of the exponent. Each text may be empty.
 pub fn read_scanned(
     whole: &[u8],
     fraction: &[u8],

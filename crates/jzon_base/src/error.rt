@@ -154,8 +154,7 @@ impl<T: Drop> From<AllocFailed<T>> for Error {
 
 /// So that `?` works in a `main` that returns an `io::Result`. The kind is `OutOfMemory`,
 /// `UnexpectedEof` if the text ends too early, or else `InvalidData`. The message is what `Display`
-/// prints, for a text's error at most 73 of the 80 bytes that an `io::Error` can hold. A word of
-/// `WrongType` that doesn't fit is left out.
+/// prints; a word of `WrongType` that doesn't fit into its 80 bytes is left out.
 impl From<Error> for io::Error {
     ghost from_gives = { λ e i. error_kind i ≡ io_kind e };
 

@@ -15,9 +15,8 @@ pub(crate) fn text_in<const MAX: usize>(text: &str) -> ArrayString<MAX>
     inline
 }
 
-/// The text, with which `wide` begins. `MAX` bytes of `wide` are copied, and the copy is cut to the
-/// text: a copy of a fixed number of bytes takes no call. The caller tests whether `wide` can be cut
-/// there, so that it makes either text where it stays.
+/// The text, with which `wide` begins. `MAX` bytes of `wide` are copied and cut: a copy of a fixed
+/// number of bytes takes no call. The caller tests whether `wide` can be cut there.
 #[inline(always)]
 #[tactic(auto, using(crate::proofs::Strings::CopiedPrefixes::splits_front))]
 pub(crate) fn front_of<const MAX: usize>(text: &str, wide: &str) -> ArrayString<MAX>

@@ -267,8 +267,8 @@ impl<V> Pairs<V> {
         Some(self.value_mut(position))
     }
 
-    /// Puts the first entry, into a new box: there is none yet. The box is allocated before the
-    /// room for keys and values. After an error there is still no entry.
+    /// Puts the first entry, into a new box: there is none yet. After an error there is still no
+    /// entry.
     #[inline(never)]
     fn insert_first(&mut self, alloc: Global, name: &str, value: V) -> Result<(), AllocError>
     where

@@ -40,8 +40,8 @@ impl Object {
         Ok(self.copy(alloc)?)
     }
 
-    /// As `clone`, with an error that takes no memory, so that less is cleared for each result. Not
-    /// inlined into the loop over elements, which has a smaller stack frame without it.
+    /// As `clone`, with an error without bytes, so that less is cleared. Not inlined into the loop
+    /// over elements, which has a smaller stack frame without it.
     #[inline(never)]
     #[cycle(copy)]
     fn copy(&self, alloc: Global) -> std::result::Result<Object, AllocError>
@@ -54,7 +54,7 @@ impl Object {
 }
 
 /// Copies of the values, in order, each made in place, because a value that is returned is moved.
-/// Not inlined, neither into itself nor into `Object::copy`, so that its stack frame stays small.
+/// Not inlined, so that its stack frame stays small.
 #[inline(never)]
 #[cycle(copy)]
 fn copy_items(alloc: Global, items: &[JsonValue]) -> std::result::Result<Vec<JsonValue>, AllocError>

@@ -31,8 +31,8 @@ use std::convert::AsStr;
 use std::iter::FusedIterator;
 use std::{slice, vec};
 
-/// The most pairs that `from_pairs` makes room for ahead of reading them: what an iterator expects
-/// may be far more than there are distinct keys.
+/// The most pairs that `from_pairs` makes room for ahead: an iterator may expect far more than there
+/// are distinct keys.
 const ROOM_MAX: usize = 256;
 
 /// The entries of an object that are left, each as its key's text and its value.
@@ -117,7 +117,7 @@ impl Object {
     }
 
     /// As `from_pairs`, for keys and as many values. Public only for the parser. Inlined like
-    /// `Pairs::from_entries`, because each small object of a text is made here.
+    /// `Pairs::from_entries`.
     #[doc(hidden)]
     #[inline(always)]
     pub fn from_entries(
@@ -304,8 +304,7 @@ impl Drop for Object {
     }
 }
 
-/// Drops the elements of an array. Not inlined into the loop that calls it, so that an object
-/// without entries needs no call.
+/// Drops the elements of an array. Not inlined, so that an object without entries needs no call.
 #[inline(never)]
 #[cycle(json)]
 fn drop_items(items: Vec<JsonValue>) {

@@ -485,7 +485,7 @@ fn a_writer_fails_at_each_call(rt: HostRuntime) -> Result<(), Fail> {
 
 /// How a text begins, what is repeated how often, and how it ends. `write` collects 1,024 bytes: the
 /// first three texts have one fewer, as many, and one more, and a string of 1,022 bytes fills the
-/// buffer with its quotes. Longer strings are at its start and after other bytes.
+/// buffer with its quotes.
 const ROUND_A_BUFFER: &[(&str, &str, usize, &str)] = &[
     ("[", "1234567,", 127, "76543]"),
     ("[", "1234567,", 127, "765432]"),
@@ -539,9 +539,9 @@ fn prints_more_lines_than_the_buffer_holds(rt: HostRuntime) -> Result<(), Fail> 
     Ok(())
 }
 
-/// A layout, how a text of it begins, what comes again and again, how it ends, and the calls of the
-/// writer: 200,003 bytes by 1,024, or 400,006, and the newline. A string longer than the buffer is
-/// passed on whole: what is before it, the string, what is behind it, and the newline.
+/// A layout, how a text of it begins, what is repeated, how it ends, and the calls of the writer:
+/// 200,003 bytes by 1,024, or 400,006, and the newline. A string longer than the buffer is passed on
+/// whole, between what is before and behind it.
 const SELDOM: &[(Layout, &str, &str, &str, usize)] = &[
     (Layout::Compact, "[1", ",1", "]", 197),
     (Layout::Pretty(1), "[\n 1", ",\n 1", "\n]", 392),

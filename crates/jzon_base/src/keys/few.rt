@@ -11,7 +11,7 @@ use crate::key::Key;
 /// Up to how many keys are few: one filter is enough for them.
 pub const LINEAR_MAX: usize = 32;
 
-/// Up to how many keys one word of bits finds those that may repeat. Of more keys, a filter does.
+/// Up to how many keys one word of bits finds those that may repeat.
 const ONE_WORD_MAX: usize = 16;
 
 /// Whether texts have the same bytes.

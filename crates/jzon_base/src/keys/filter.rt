@@ -16,9 +16,8 @@ pub struct Filter {
     words: [u64; 4],
 }
 
-/// The number of a key's bit, which is computed from its length, its first byte and its last two
-/// (of a key of one byte, this byte each time). The factors are meant to spread keys over the bits;
-/// with others, only more or fewer keys would be compared.
+/// The number of a key's bit, by its length, its first byte and its last two (of a key of one byte,
+/// this byte). With other factors, only more or fewer keys would be compared.
 #[inline(always)]
 #[tactic(auto, unfolding(crate::specs::Private::Filter::bit_of))]
 fn bit_of(name: &str) -> usize

@@ -6,8 +6,8 @@ ghost use Rattle.std.specs.Map.Calls.{CalledAtPair, CallableOnEachPair, RetainsP
 use super::Keys;
 use crate::key::Key;
 
-/// Whether `keep` keeps this entry. It may change the value. A function of its own, so that the
-/// proof of the loop speaks of keys and values, and not of references to them.
+/// Whether `keep` keeps this entry, whose value it may change. A function of its own, so that the
+/// proof of the loop speaks of keys and values, and not of references.
 #[inline(always)]
 fn keeps<V: Drop, F: FnMut(&str, &mut V) -> bool>(keep: &mut F, key: &str, value: &mut V) -> bool
     requires { TakesPair F.FnMut keep.old key.now value.old }

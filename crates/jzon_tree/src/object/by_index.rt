@@ -15,7 +15,7 @@ impl Object {
     ghost use Rattle.jzon_tree.specs.contracts.value.JsonValue.{the_row as value_row};
     ghost use Rattle.jzon_tree.specs.Entries.{entries_of, with_entries};
 
-    /// The entry at a position, counted from 0: its key's text and its value. `None` past the end.
+    /// The entry at a position: its key's text and its value. `None` past the end.
     pub fn get_index(&self, index: usize) -> Option<(&str, &JsonValue)>
         ensures { option_map (λ p. (p.0.now, p.1.now)) result
             ≡ slice_get (entries_of self.now) index }
@@ -27,15 +27,12 @@ impl Object {
         }
     }
 
-    /// A mutable reference to the value of the entry at a position, counted from 0. `None` past the
-    /// end. A write through it changes nothing else.
+    /// A mutable reference to the value of the entry at a position. `None` past the end. A write
+    /// through it changes nothing else.
     ///
     /// ```rust
-    /// for index in 0..object.len() {
-    ///     let hides = hides_member(object, index, names);
-    ///     if let Some(value) = object.get_index_mut(index) {
-    ///         count = count.saturating_add(redact_member(value, hides, names));
-    ///     }
+    /// if let Some(value) = object.get_index_mut(index) {
+    ///     count = count.saturating_add(redact_member(value, hides, names));
     /// }
     /// ```
     pub fn get_index_mut(&mut self, index: usize) -> Option<&mut JsonValue>
@@ -58,8 +55,8 @@ impl Object {
         self.pairs.position(key)
     }
 
-    /// Removes the entry at a position, counted from 0, and returns its key and its value. `None`
-    /// past the end. The other entries keep their order. It allocates nothing.
+    /// Removes the entry at a position, and returns its key and its value. `None` past the end. The
+    /// other entries keep their order. It allocates nothing.
     ///
     /// The entries after it move up, as in `remove`.
     pub fn shift_remove_index(&mut self, index: usize) -> Option<(Key, JsonValue)>

@@ -10,9 +10,8 @@ use crate::object::Object;
 use crate::value::JsonValue;
 use crate::value::inspect::see_number;
 
-/// Whether no number in the value is NaN, and at most `depth` non-empty containers nest in it: then
-/// a reading of this depth reads its compact and pretty texts as equal values. Ends at the first
-/// NaN, and at the first container that is too deep. Allocates nothing.
+/// Whether no number in the value is NaN, and at most `depth` non-empty containers nest in it. Ends
+/// at the first NaN or container that is too deep. Allocates nothing.
 #[cycle(is_readable)]
 #[tactic(auto, using(crate::proofs::Values::Views::views))]
 pub fn is_readable(value: &JsonValue, depth: u16) -> bool
