@@ -2,7 +2,7 @@
 //! hardly any time.
 
 use jzon::object::Object;
-use jzon::{JsonValue, parse};
+use jzon::{IntoJson, JsonValue, Result, parse};
 use jzon_test_support::EACH_KIND;
 pub use jzon_test_support::{Tested, Tester, each_unread, long, number, parts};
 use std::alloc::Global;
@@ -20,7 +20,7 @@ pub fn expect_eq<T: Copy + PartialEq + Debug>(rt: &impl Abort, row: &str, found:
 }
 
 /// Values of each kind, each with its compact text.
-pub fn each_value(alloc: Global) -> jzon::Result<Vec<(&'static str, JsonValue)>> {
+pub fn each_value(alloc: Global) -> Result<Vec<(&'static str, JsonValue)>> {
     let mut values = Vec::new(alloc);
     for text in EACH_KIND {
         values.push((*text, parse(alloc, text)?))?;
@@ -31,19 +31,32 @@ pub fn each_value(alloc: Global) -> jzon::Result<Vec<(&'static str, JsonValue)>>
     Ok(values)
 }
 
-/// The value dumps this text.
-pub fn expect_dump(rt: &impl Tester, value: &JsonValue, text: &str) -> Tested {
-    let dump = value.dump(rt.alloc())?;
-    expect_eq(rt, text, dump.as_str(), text);
-    Ok(())
+/// The value dumps this text. A failed allocation is no error to return: each `?` of a test takes
+/// seconds to prove.
+pub fn expect_dump(rt: &impl Tester, value: &JsonValue, text: &str) {
+    expect_same(rt, value.dump(rt.alloc()), text);
 }
 
 /// The object dumps this text, and is empty only if that is `{}`.
-pub fn expect_text(rt: &impl Tester, object: &Object, text: &str) -> Tested {
-    let dump = object.dump(rt.alloc())?;
-    expect_eq(rt, text, dump.as_str(), text);
+pub fn expect_text(rt: &impl Tester, object: &Object, text: &str) {
+    expect_same(rt, object.dump(rt.alloc()), text);
     expect_eq(rt, text, object.is_empty(), text == "{}");
-    Ok(())
+}
+
+/// The source converts into the value of this text.
+pub fn expect_converted<T: IntoJson>(rt: &impl Abort, alloc: Global, source: T, text: &str) {
+    match source.into_json(alloc) {
+        Ok(value) => expect_same(rt, value.dump(alloc), text),
+        Err(_) => expect(rt, text, false),
+    }
+}
+
+/// The call returned this text.
+pub fn expect_same<E: Drop>(rt: &impl Abort, found: std::result::Result<String, E>, text: &str) {
+    match found {
+        Ok(found) => expect_eq(rt, text, found.as_str(), text),
+        Err(_) => expect(rt, text, false),
+    }
 }
 
 /// Whether it is an entry of this key and this number.

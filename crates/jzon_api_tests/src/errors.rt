@@ -1,6 +1,6 @@
 //! What errors report.
 
-use crate::common::{Tested, expect, expect_eq};
+use crate::common::{expect, expect_eq};
 use jzon::{Reading, parse_as};
 
 /// A text, and the line and the column of its error, counted by hand.
@@ -14,7 +14,7 @@ const PLACES: &[(&str, Option<usize>, Option<usize>)] = &[
 ];
 
 #[test]
-fn reports_line_and_column(rt: HostRuntime) -> Tested {
+fn reports_line_and_column(rt: HostRuntime) {
     let reading = Reading::STRICT.with_exact_numbers();
     for (text, line, column) in PLACES {
         match parse_as(rt.alloc(), text, &reading) {
@@ -25,5 +25,4 @@ fn reports_line_and_column(rt: HostRuntime) -> Tested {
             }
         }
     }
-    Ok(())
 }

@@ -36,9 +36,9 @@ fn makes_keys(rt: HostRuntime) -> Tested {
     for (before, borrowed, after) in KEYS {
         let mut value = parse(alloc, before)?;
         let place = value.at_mut(alloc, "a")?;
-        expect_dump(&rt, place, borrowed)?;
+        expect_dump(&rt, place, borrowed);
         *place = number(7);
-        expect_dump(&rt, &value, after)?;
+        expect_dump(&rt, &value, after);
     }
     Ok(())
 }
@@ -47,7 +47,8 @@ fn makes_keys(rt: HostRuntime) -> Tested {
 fn makes_keys_of_keys(rt: HostRuntime) -> Tested {
     let mut value = JsonValue::Null;
     *value.at_mut(rt.alloc(), "foo")?.at_mut(rt.alloc(), "bar")? = number(100);
-    expect_dump(&rt, &value, "{\"foo\":{\"bar\":100}}")
+    expect_dump(&rt, &value, "{\"foo\":{\"bar\":100}}");
+    Ok(())
 }
 
 /// A value, an index, what `at_index_mut` lends there, the whole then, and the whole after 7 is
@@ -73,11 +74,11 @@ fn makes_elements(rt: HostRuntime) -> Tested {
     let alloc = rt.alloc();
     for (before, index, borrowed, made, written) in ELEMENTS {
         let mut value = parse(alloc, before)?;
-        expect_dump(&rt, value.at_index_mut(alloc, *index)?, borrowed)?;
-        expect_dump(&rt, &value, made)?;
+        expect_dump(&rt, value.at_index_mut(alloc, *index)?, borrowed);
+        expect_dump(&rt, &value, made);
         let mut value = parse(alloc, before)?;
         *value.at_index_mut(alloc, *index)? = number(7);
-        expect_dump(&rt, &value, written)?;
+        expect_dump(&rt, &value, written);
     }
     Ok(())
 }
@@ -108,7 +109,8 @@ fn borrow_nothing(rt: &impl Tester, text: &str, mut value: JsonValue) -> Tested 
         matches!(value, JsonValue::String(_)),
         is_allocated,
     );
-    expect_dump(rt, &value, text)
+    expect_dump(rt, &value, text);
+    Ok(())
 }
 
 #[test]
@@ -126,7 +128,8 @@ fn borrows_what_is_there(rt: HostRuntime) -> Tested {
     if let Some(items) = value.as_array_mut() {
         items.clear();
     }
-    expect_dump(&rt, &value, "[]")
+    expect_dump(&rt, &value, "[]");
+    Ok(())
 }
 
 /// It is `{"a":[1]}`.
@@ -135,11 +138,12 @@ fn borrow_entries(rt: &impl Tester, mut value: JsonValue) -> Tested {
     if let Some(place) = value.get_mut("a") {
         place.push(rt.alloc(), 2)?;
     }
-    expect_dump(rt, &value, "{\"a\":[1,2]}")?;
+    expect_dump(rt, &value, "{\"a\":[1,2]}");
     if let Some(object) = value.as_object_mut() {
         object.clear();
     }
-    expect_dump(rt, &value, "{}")
+    expect_dump(rt, &value, "{}");
+    Ok(())
 }
 
 /// From the back, each element becomes the one that was taken before it, and the last one null.
@@ -184,10 +188,11 @@ const MOVED: &[(&str, &str, &str)] = &[
 fn expect_moved(rt: &impl Tester, before: &str, members: &str, entries: &str) -> Tested {
     let mut value = parse(rt.alloc(), before)?;
     move_members(&mut value);
-    expect_dump(rt, &value, members)?;
+    expect_dump(rt, &value, members);
     let mut value = parse(rt.alloc(), before)?;
     move_entries(&mut value);
-    expect_dump(rt, &value, entries)
+    expect_dump(rt, &value, entries);
+    Ok(())
 }
 
 #[test]
@@ -204,11 +209,12 @@ fn writes(rt: HostRuntime) -> Tested {
     let mut value = JsonValue::Null;
     expect(&rt, "no a", !write_present(&mut value, "a", number(1)));
     put_value(&mut value, alloc, "a", number(2))?;
-    expect_dump(&rt, &value, "{\"a\":2}")?;
+    expect_dump(&rt, &value, "{\"a\":2}");
     expect(&rt, "a", write_present(&mut value, "a", number(3)));
-    expect_dump(&rt, &value, "{\"a\":3}")?;
+    expect_dump(&rt, &value, "{\"a\":3}");
     put_item(&mut value, alloc, 1, number(4))?;
-    expect_dump(&rt, &value, "[null,4]")
+    expect_dump(&rt, &value, "[null,4]");
+    Ok(())
 }
 
 fn make_keys(rt: &impl Tester, mut object: Object) -> Tested {
@@ -217,7 +223,8 @@ fn make_keys(rt: &impl Tester, mut object: Object) -> Tested {
     expect(rt, "b", object.at_mut(alloc, "b")?.is_null());
     expect(rt, "a", object.at_mut(alloc, "a")?.eq_u64(1));
     *object.at_mut(alloc, "a")? = number(2);
-    expect_text(rt, &object, "{\"a\":2,\"b\":null}")
+    expect_text(rt, &object, "{\"a\":2,\"b\":null}");
+    Ok(())
 }
 
 /// An object without entries lends the values of two keys, also one that has room.

@@ -82,7 +82,8 @@ fn names_entries(rt: HostRuntime) -> Tested {
     let mut value = one_entry(rt.alloc())?;
     expect_entry(&rt, value.entries());
     clear_entries(&mut value);
-    expect_dump(&rt, &value, "{\"a\":null}")
+    expect_dump(&rt, &value, "{\"a\":null}");
+    Ok(())
 }
 
 #[test]

@@ -28,7 +28,7 @@ fn inserts(rt: HostRuntime) -> Tested {
     for (before, after) in INSERTED {
         let mut object = object_of(rt.alloc(), before)?;
         object.insert(rt.alloc(), "a", number(9))?;
-        expect_text(&rt, &object, after)?;
+        expect_text(&rt, &object, after);
     }
     Ok(())
 }
@@ -47,10 +47,10 @@ fn removes(rt: HostRuntime) -> Tested {
     for (before, removed, left) in REMOVED {
         let mut object = object_of(rt.alloc(), before)?;
         match (object.remove("a"), removed) {
-            (Some(value), Some(removed)) => expect_dump(&rt, &value, removed)?,
+            (Some(value), Some(removed)) => expect_dump(&rt, &value, removed),
             (value, _) => expect(&rt, before, value.is_none() && removed.is_none()),
         }
-        expect_text(&rt, &object, left)?;
+        expect_text(&rt, &object, left);
     }
     Ok(())
 }
@@ -61,12 +61,13 @@ fn puts_a_removed_key_last(rt: HostRuntime) -> Tested {
     let alloc = rt.alloc();
     let mut object = object_of(alloc, "{\"a\":1,\"b\":2,\"c\":3}")?;
     expect(&rt, "no x", object.remove("x").is_none());
-    expect_text(&rt, &object, "{\"a\":1,\"b\":2,\"c\":3}")?;
+    expect_text(&rt, &object, "{\"a\":1,\"b\":2,\"c\":3}");
     let removed = object.remove("b").unwrap_or(JsonValue::Null);
     expect(&rt, "2", removed.eq_u64(2));
-    expect_text(&rt, &object, "{\"a\":1,\"c\":3}")?;
+    expect_text(&rt, &object, "{\"a\":1,\"c\":3}");
     object.insert(alloc, "b", number(4))?;
-    expect_text(&rt, &object, "{\"a\":1,\"c\":3,\"b\":4}")
+    expect_text(&rt, &object, "{\"a\":1,\"c\":3,\"b\":4}");
+    Ok(())
 }
 
 /// An object, and its members with other keys than `b`, in order, each with what the closure wrote.
@@ -90,7 +91,7 @@ fn retains(rt: HostRuntime) -> Tested {
     for (before, after) in RETAINED {
         let mut object = object_of(rt.alloc(), before)?;
         retain_others(&mut object);
-        expect_text(&rt, &object, after)?;
+        expect_text(&rt, &object, after);
     }
     Ok(())
 }
@@ -99,12 +100,13 @@ fn retains(rt: HostRuntime) -> Tested {
 fn overrides_the_last(rt: HostRuntime) -> Tested {
     let mut object = object_of(rt.alloc(), "{\"a\":1,\"b\":2,\"c\":3}")?;
     object.override_last(number(9));
-    expect_text(&rt, &object, "{\"a\":1,\"b\":2,\"c\":9}")?;
+    expect_text(&rt, &object, "{\"a\":1,\"b\":2,\"c\":9}");
     expect_eq(&rt, "the length", object.len(), 3);
     object.clear();
     object.override_last(number(9));
     expect_eq(&rt, "the length", object.len(), 0);
-    expect_text(&rt, &object, "{}")
+    expect_text(&rt, &object, "{}");
+    Ok(())
 }
 
 #[test]
@@ -114,11 +116,12 @@ fn borrows_its_values(rt: HostRuntime) -> Tested {
     if let Some(value) = object.get_mut("b") {
         *value = JsonValue::Null;
     }
-    expect_text(&rt, &object, "{\"a\":1,\"b\":null,\"c\":3}")?;
+    expect_text(&rt, &object, "{\"a\":1,\"b\":null,\"c\":3}");
     for (_, value) in object.iter_mut() {
         *value = JsonValue::Boolean(true);
     }
-    expect_text(&rt, &object, "{\"a\":true,\"b\":true,\"c\":true}")
+    expect_text(&rt, &object, "{\"a\":true,\"b\":true,\"c\":true}");
+    Ok(())
 }
 
 #[test]
@@ -179,7 +182,8 @@ fn equals_in_any_order(rt: HostRuntime) -> Tested {
     expect(&rt, "equal", object == other);
     let copy = other.clone(rt.alloc())?;
     expect(&rt, "the copy", object == copy);
-    expect_text(&rt, &copy, "{\"b\":2,\"a\":1.0}")
+    expect_text(&rt, &copy, "{\"b\":2,\"a\":1.0}");
+    Ok(())
 }
 
 #[test]
@@ -209,7 +213,7 @@ fn reads_and_writes_by_position(rt: HostRuntime) -> Tested {
         if let Some(value) = object.get_index_mut(*index) {
             *value = number(9);
         }
-        expect_text(&rt, &object, text)?;
+        expect_text(&rt, &object, text);
     }
     Ok(())
 }
@@ -229,7 +233,7 @@ fn removes_by_position(rt: HostRuntime) -> Tested {
         let mut object = object_of(rt.alloc(), "{\"b\":1,\"a\":2,\"c\":3}")?;
         let found = object.shift_remove_index(*index);
         expect(&rt, left, is_removed(found, *removed));
-        expect_text(&rt, &object, left)?;
+        expect_text(&rt, &object, left);
     }
     Ok(())
 }
@@ -276,10 +280,10 @@ fn knows_positions(rt: HostRuntime) -> Tested {
 fn collects_entries(rt: HostRuntime) -> Tested {
     let alloc = rt.alloc();
     let object: Object = [("b", 1u8), ("a", 2), ("b", 3)].into_iter().collect(alloc)?;
-    expect_text(&rt, &object, "{\"b\":3,\"a\":2}")?;
+    expect_text(&rt, &object, "{\"b\":3,\"a\":2}");
     let names = ["a", "bc", ""];
     let object: Object = names.iter().map(|name| (*name, name.len())).collect(alloc)?;
-    expect_text(&rt, &object, "{\"a\":1,\"bc\":2,\"\":0}")?;
+    expect_text(&rt, &object, "{\"a\":1,\"bc\":2,\"\":0}");
     let empty: [(String, bool); 0] = [];
     let object: Object = empty.into_iter().collect(alloc)?;
     expect(&rt, "nothing", object.is_empty());

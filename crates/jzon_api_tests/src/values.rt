@@ -1,10 +1,12 @@
 //! Equality and copies of values.
 
-use crate::common::{Tested, Tester, each_value, expect, expect_dump, expect_eq, long, parts};
+use crate::common::{
+    Tested, Tester, each_value, expect, expect_converted, expect_dump, expect_eq, long, parts,
+};
 use jzon::number::NAN;
 use jzon::object::Object;
 use jzon::short::Short;
-use jzon::{IntoJson, JsonValue, Result, object, parse};
+use jzon::{JsonValue, Result, object, parse};
 use jzon_test_support::joined;
 use std::alloc::Global;
 
@@ -93,19 +95,20 @@ const CLONED: &[&str] = &[
 /// By `clone` and by std's `Clone`, alone, in a list and in a slice. A string that is allocated stays
 /// so, however short it is.
 fn expect_copies(rt: &impl Tester, value: JsonValue, text: &str) -> Tested {
-    expect_copy(rt, &value.clone(rt.alloc())?, &value, text)?;
-    expect_copy(rt, &Clone::clone(&value)?, &value, text)?;
+    expect_copy(rt, &value.clone(rt.alloc())?, &value, text);
+    expect_copy(rt, &Clone::clone(&value)?, &value, text);
     let items = vec![in rt.alloc(); value]?;
     let list = joined(rt.alloc(), &[("[", 1), (text, 1), ("]", 1)])?;
-    expect_dump(rt, &items.as_slice().into_json(rt.alloc())?, list.as_str())?;
-    expect_dump(rt, &JsonValue::Array(items.clone()?), list.as_str())
+    expect_converted(rt, rt.alloc(), items.as_slice(), list.as_str());
+    expect_dump(rt, &JsonValue::Array(items.clone()?), list.as_str());
+    Ok(())
 }
 
-fn expect_copy(rt: &impl Tester, copy: &JsonValue, value: &JsonValue, text: &str) -> Tested {
+fn expect_copy(rt: &impl Tester, copy: &JsonValue, value: &JsonValue, text: &str) {
     expect_equal(rt, copy, value, true);
     let is_allocated = matches!(value, JsonValue::String(_));
     expect_eq(rt, text, matches!(copy, JsonValue::String(_)), is_allocated);
-    expect_dump(rt, copy, text)
+    expect_dump(rt, copy, text);
 }
 
 /// An empty string, a short one and one of 31 bytes that are allocated are among these values.
@@ -141,5 +144,6 @@ fn derives_clone(rt: HostRuntime) -> Tested {
     expect_eq(&rt, "the string", copy.name.as_str(), "x");
     expect(&rt, "the object", copy.fallback.is_some());
     expect(&rt, "the value", copy.value == setting.value);
-    expect_dump(&rt, &copy.value, text)
+    expect_dump(&rt, &copy.value, text);
+    Ok(())
 }

@@ -133,16 +133,24 @@ const EXACT_LIMITS: &[(Long, Long, Outcome)] = rows! {
 };
 
 #[test]
-fn reads_exactly(rt: HostRuntime) -> Result<(), Fail> {
+fn reads_exactly(rt: HostRuntime) {
     for (whole, fraction, want) in EXACT {
         let outcome = outcome_of(whole.as_bytes(), fraction.as_bytes(), true, b"", true);
         expect_eq(&rt, whole, outcome, Some(*want));
     }
+}
+
+#[test]
+fn reads_exponents_exactly(rt: HostRuntime) {
     for (whole, fraction, positive, exponent, want) in EXACT_EXPONENTS {
         let (whole, fraction) = (whole.as_bytes(), fraction.as_bytes());
         let outcome = outcome_of(whole, fraction, *positive, exponent.as_bytes(), true);
         expect_eq(&rt, exponent, outcome, Some(*want));
     }
+}
+
+#[test]
+fn reads_many_digits_exactly(rt: HostRuntime) -> Result<(), Fail> {
     for (whole, fraction, want) in EXACT_LIMITS {
         let whole = spelled(rt.alloc(), whole)?;
         let fraction = spelled(rt.alloc(), fraction)?;

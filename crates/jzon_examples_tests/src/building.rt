@@ -67,11 +67,10 @@ fn builds_from_floats(rt: HostRuntime) -> Tested {
 }
 
 #[test]
-fn refuses_other_floats(rt: HostRuntime) -> Tested {
+fn refuses_other_floats(rt: HostRuntime) {
     let alloc = rt.alloc();
     assert!(rt; from_float(alloc, f64::NAN).is_err());
     assert!(rt; from_float(alloc, f64::INFINITY).is_err());
-    Ok(())
 }
 
 #[test]

@@ -9,7 +9,7 @@ fn trims_at_any_depth(rt: HostRuntime) -> Tested {
     let alloc = rt.alloc();
     let mut value = jzon::parse(alloc, r#"{"a": [" x ", {"b": "y "}], "c": 1}"#)?;
     trim_all(alloc, &mut value)?;
-    expect_dump(&rt, &value, r#"{"a":["x",{"b":"y"}],"c":1}"#)?;
+    expect_dump(&rt, &value, r#"{"a":["x",{"b":"y"}],"c":1}"#);
     expect_eq(&rt, "the longest", longest(&value, 513), 1);
     expect_eq(&rt, "too deep", longest(&value, 2), 0);
     Ok(())

@@ -73,7 +73,7 @@ fn rejects_texts_in_a_row(rt: HostRuntime) -> Tested {
 }
 
 #[test]
-fn rejects_a_lone_surrogate(rt: HostRuntime) -> Tested {
+fn rejects_a_lone_surrogate(rt: HostRuntime) {
     let alloc = rt.alloc();
     let lone = Error::UnexpectedCharacter {
         ch: '"',
@@ -81,7 +81,6 @@ fn rejects_a_lone_surrogate(rt: HostRuntime) -> Tested {
         column: 8,
     };
     assert!(rt; jzon::parse(alloc, r#""\ud83d""#) == Err(lone));
-    Ok(())
 }
 
 #[test]
@@ -162,11 +161,10 @@ fn reads_by_other_rules(rt: HostRuntime) -> Tested {
 }
 
 #[test]
-fn reads_flat_texts(rt: HostRuntime) -> Tested {
+fn reads_flat_texts(rt: HostRuntime) {
     let alloc = rt.alloc();
     let deep = "[[[[[[[[[[[[[[[[[1]]]]]]]]]]]]]]]]]";
     assert!(rt; jzon::parse(alloc, deep).is_ok());
     assert!(rt; parse_flat(alloc, deep) == Err(Error::ExceededDepthLimit));
     assert!(rt; parse_flat(alloc, &deep[1..34]).is_ok());
-    Ok(())
 }

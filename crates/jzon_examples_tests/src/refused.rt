@@ -31,7 +31,8 @@ fn counts_in_a_list(rt: HostRuntime) -> Tested {
         &rt,
         &as_in_rust(alloc, &list)?,
         r#"{"nulls":2,"most":7,"limit":5}"#,
-    )
+    );
+    Ok(())
 }
 
 #[test]

@@ -11,5 +11,6 @@ fn writes(rt: HostRuntime) -> Tested {
     expect(&rt, "an error", failed.is_err());
     let mut value = jzon::parse(alloc, "{\"port\": 1, \"host\": \"a\"}")?;
     set_port(alloc, &mut value, 80)?;
-    expect_dump(&rt, &value, "{\"port\":80,\"host\":\"a\"}")
+    expect_dump(&rt, &value, "{\"port\":80,\"host\":\"a\"}");
+    Ok(())
 }

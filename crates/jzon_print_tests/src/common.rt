@@ -66,10 +66,11 @@ pub fn read_strictly(alloc: Global, text: &str) -> Result<JsonValue> {
 }
 
 /// The value dumps this text.
-pub fn expect_dump(rt: &impl Tester, value: &JsonValue, text: &str) -> Tested {
-    let dump = value.dump(rt.alloc())?;
-    expect_eq(rt, text, dump.as_str(), text);
-    Ok(())
+pub fn expect_dump(rt: &impl Tester, value: &JsonValue, text: &str) {
+    match value.dump(rt.alloc()) {
+        Ok(dump) => expect_eq(rt, text, dump.as_str(), text),
+        Err(_) => expect(rt, text, false),
+    }
 }
 
 /// An array of these numbers.

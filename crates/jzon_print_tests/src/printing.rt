@@ -120,7 +120,8 @@ fn writes_null_for_nan(rt: HostRuntime) -> Tested {
     let mut bytes: Vec<u8> = Vec::new(alloc);
     value.write(&mut bytes)?;
     expect_eq(&rt, "the bytes", bytes.as_slice(), b"[null]".as_slice());
-    expect_dump(&rt, &value, "[null]")
+    expect_dump(&rt, &value, "[null]");
+    Ok(())
 }
 
 /// Bytes, and their text if they are UTF-8.

@@ -289,17 +289,15 @@ const KEYS: &[&str] = &["", "a", "0123456789abcdef0123456789abcdef01234567"];
 type Entry<'a> = (&'a str, &'a JsonValue, &'a str);
 
 /// The array prints this text, and gives the value back.
-fn expect_element(rt: &impl Tester, mut array: JsonValue, value: &JsonValue, text: &str) -> Tested {
-    expect_dump(rt, &array, text)?;
+fn expect_element(rt: &impl Tester, mut array: JsonValue, value: &JsonValue, text: &str) {
+    expect_dump(rt, &array, text);
     expect(rt, "pop", array.pop() == *value && array.is_empty());
-    Ok(())
 }
 
-fn expect_entry(rt: &impl Tester, mut object: JsonValue, (key, value, text): Entry<'_>) -> Tested {
-    expect_dump(rt, &object, text)?;
+fn expect_entry(rt: &impl Tester, mut object: JsonValue, (key, value, text): Entry<'_>) {
+    expect_dump(rt, &object, text);
     let removed = object.remove(key);
     expect(rt, "remove", removed == *value && object.is_empty());
-    Ok(())
 }
 
 fn expect_only(rt: &impl Tester, mut object: Object, (key, value, text): Entry<'_>) -> Tested {
@@ -313,7 +311,7 @@ fn expect_only(rt: &impl Tester, mut object: Object, (key, value, text): Entry<'
 fn expect_elements(rt: &impl Tester, value: &JsonValue, text: &str) -> Tested {
     let list = joined(rt.alloc(), &[("[", 1), (text, 1), ("]", 1)])?;
     for call in ARRAYS {
-        expect_element(rt, call.array(rt.alloc(), value)?, value, list.as_str())?;
+        expect_element(rt, call.array(rt.alloc(), value)?, value, list.as_str());
     }
     Ok(())
 }
@@ -326,7 +324,7 @@ pub fn expect_held(rt: &impl Tester, key: &str, value: &JsonValue, text: &str) -
     let whole = format!(in alloc; "{{{name}:{text}}}")?;
     let entry = (key, value, whole.as_str());
     for call in VALUES {
-        expect_entry(rt, call.object(alloc, key, value)?, entry)?;
+        expect_entry(rt, call.object(alloc, key, value)?, entry);
     }
     for call in OBJECTS {
         expect_only(rt, call.object(alloc, key, value)?, entry)?;

@@ -175,9 +175,10 @@ fn expect_sorted(rt: &impl Tester, mut value: JsonValue, text: &str) -> Tested {
     let alloc = rt.alloc();
     let copy = sorted(alloc, &value)?;
     expect(rt, text, copy == value);
-    expect_dump(rt, &copy, text)?;
+    expect_dump(rt, &copy, text);
     sort_keys(alloc, &mut value)?;
-    expect_dump(rt, &value, text)
+    expect_dump(rt, &value, text);
+    Ok(())
 }
 
 #[test]
@@ -270,13 +271,13 @@ fn run(
     let has_failed = refusals.has_failed();
     if has_failed {
         expect(rt, row.1, result == Err(CanonicalError::OutOfMemory));
-        expect_dump(rt, &value, row.2)?;
+        expect_dump(rt, &value, row.2);
         return Ok(true);
     }
     expect(rt, row.1, result.is_ok());
     match value.as_str() {
         Some(text) => expect_eq(rt, row.1, text, row.3),
-        None => expect_dump(rt, &value, row.3)?,
+        None => expect_dump(rt, &value, row.3),
     }
     Ok(false)
 }

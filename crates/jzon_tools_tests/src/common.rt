@@ -17,8 +17,9 @@ pub fn expect_eq<T: Copy + PartialEq + Debug>(rt: &impl Abort, row: &str, found:
 }
 
 /// The value dumps this text.
-pub fn expect_dump(rt: &impl Tester, value: &JsonValue, text: &str) -> Tested {
-    let dump = value.dump(rt.alloc())?;
-    expect_eq(rt, text, dump.as_str(), text);
-    Ok(())
+pub fn expect_dump(rt: &impl Tester, value: &JsonValue, text: &str) {
+    match value.dump(rt.alloc()) {
+        Ok(dump) => expect_eq(rt, text, dump.as_str(), text),
+        Err(_) => expect(rt, text, false),
+    }
 }

@@ -52,7 +52,7 @@ fn applies(rt: HostRuntime) -> Tested {
             patch::apply(rt.alloc(), &mut value, &patch),
             Ok(()),
         );
-        expect_dump(&rt, &value, after)?;
+        expect_dump(&rt, &value, after);
     }
     Ok(())
 }
@@ -108,21 +108,20 @@ fn changes_nothing_after_an_error(rt: HostRuntime) -> Tested {
             cause: *cause,
         };
         expect_eq(&rt, text, outcome, Err(error));
-        expect_dump(&rt, &value, before)?;
+        expect_dump(&rt, &value, before);
     }
     Ok(())
 }
 
 /// Appendix A.13: a member twice. The strict reading of the text refuses it.
 #[test]
-fn refuses_a_member_twice(rt: HostRuntime) -> Tested {
+fn refuses_a_member_twice(rt: HostRuntime) {
     let text = r#"[{"op":"add","path":"/baz","value":"qux","op":"remove"}]"#;
     expect(
         &rt,
         text,
         jzon::parse_as(rt.alloc(), text, &jzon::Reading::STRICT).is_err(),
     );
-    Ok(())
 }
 
 /// The words of errors.

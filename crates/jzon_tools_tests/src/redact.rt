@@ -28,7 +28,8 @@ const ROWS: &[(&str, &str, usize)] = &[
 fn expect_redacted(rt: &impl Tester, text: &str, expected: &str, count: usize) -> Tested {
     let mut value = jzon::parse(rt.alloc(), text)?;
     expect_eq(rt, text, redact(&mut value, &["password", "token"]), count);
-    expect_dump(rt, &value, expected)
+    expect_dump(rt, &value, expected);
+    Ok(())
 }
 
 #[test]
