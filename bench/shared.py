@@ -4,6 +4,7 @@ import argparse
 import collections
 import os
 import pathlib
+import re
 import resource
 import shutil
 import subprocess
@@ -171,7 +172,11 @@ def rattle_build(source, *deps, is_program=False):
     if not is_program:
         shutil.copy(HERE / source, crate / "src/calls.rt")
     shutil.copy(TOP / "HANDLES", folder)
-    (folder / "crates.txt").write_text((TOP / "crates.txt").read_text("utf-8") + f"calls: {' '.join(deps)}\n", "utf-8")
+    listed = (TOP / "crates.txt").read_text("utf-8")
+    (folder / "crates.txt").write_text(listed + f"calls: {' '.join(deps)}\n", "utf-8")
+    # What bin/prove proved isn't proved again.
+    libraries = [name for name in re.findall(r"^(\w+):", listed, re.M) if (TOP / f"crates/{name}/src/lib.rt").exists()]
+    subprocess.run([TOP / "ci/libraries", TOP, folder, *libraries], capture_output=True)
     print(
         f"bench: proving and building {source}, which takes minutes where it or its library isn't proved yet",
         file=sys.stderr, flush=True

@@ -9,7 +9,6 @@ stop() {
 
 # Prints crates and all that they depend on, lowest first: crates.txt has each crate after those.
 below() {
-    local crate
     for crate in "$@"; do
         grep -q "^$crate:" "$top/crates.txt" || stop "crates.txt has no crate $crate"
     done
