@@ -1,6 +1,6 @@
 //! Keys without an index are compared one by one. Up to `LINEAR_MAX` keys have none, unless it is
 //! left from when there were more.
-ghost use Rattle.std.specs.Prelude.{◌≡◌, ◌<◌, ◌-◌, length, IsTrue, ◌↔◌, slice_index};
+ghost use Rattle.std.specs.Prelude.{◌≡◌, ◌<◌, ◌≤◌, ◌-◌, ◌&&◌, not, length, IsTrue, ◌↔◌, slice_index};
 ghost use Rattle.std.specs.List.{list_any, position, IsDistinct};
 ghost use Rattle.std.specs.Str.{bytes_eq};
 ghost use Rattle.jzon_base.specs.Private.Filter.{word_bit_of};
@@ -10,6 +10,9 @@ use crate::key::Key;
 
 /// Up to how many keys are few: one filter is enough for them.
 pub const LINEAR_MAX: usize = 32;
+
+/// Up to how many keys each is compared with each other.
+const PAIRS_MAX: usize = 4;
 
 /// Up to how many keys one word of bits finds those that may repeat.
 const ONE_WORD_MAX: usize = 16;
@@ -55,6 +58,54 @@ pub fn has_name(keys: &[Key], name: &str) -> bool
     keys.iter().any(|key| are_equal(key.as_str(), name))
 }
 
+#[inline(always)]
+fn differ(a: &Key, b: &Key) -> bool
+    ensures { result ≡ not (bytes_eq a.now b.now) }
+{
+    !are_equal(a.as_str(), b.as_str())
+}
+
+#[inline(always)]
+fn three_differ(a: &Key, b: &Key, c: &Key) -> bool
+    ensures { result ≡ ((not (bytes_eq a.now b.now) && not (bytes_eq a.now c.now))
+        && not (bytes_eq b.now c.now)) }
+{
+    differ(a, b) && differ(a, c) && differ(b, c)
+}
+
+#[inline(always)]
+fn differs_from_three(d: &Key, a: &Key, b: &Key, c: &Key) -> bool
+    ensures { result ≡ ((not (bytes_eq a.now d.now) && not (bytes_eq b.now d.now))
+        && not (bytes_eq c.now d.now)) }
+{
+    differ(a, d) && differ(b, d) && differ(c, d)
+}
+
+#[inline(always)]
+fn four_differ(a: &Key, b: &Key, c: &Key, d: &Key) -> bool
+    ensures { result ≡ (((not (bytes_eq a.now b.now) && not (bytes_eq a.now c.now))
+        && not (bytes_eq b.now c.now))
+        && ((not (bytes_eq a.now d.now) && not (bytes_eq b.now d.now))
+        && not (bytes_eq c.now d.now))) }
+{
+    three_differ(a, b, c) && differs_from_three(d, a, b, c)
+}
+
+/// `are_distinct` of up to `PAIRS_MAX` keys. Most differ in length or in the last byte, so all
+/// pairs take fewer steps than bits do.
+#[inline(always)]
+fn are_few_distinct(keys: &[Key]) -> bool
+    requires { length keys.now ≤ PAIRS_MAX }
+    ensures { IsTrue result ↔ IsDistinct bytes_eq keys.now }
+{
+    match keys {
+        [a, b] => differ(a, b),
+        [a, b, c] => three_differ(a, b, c),
+        [a, b, c, d] => four_differ(a, b, c, d),
+        _ => true,
+    }
+}
+
 /// `are_distinct` of more than `ONE_WORD_MAX` keys.
 #[inline(never)]
 fn are_distinct_by_filter(keys: &[Key]) -> bool
@@ -93,8 +144,8 @@ pub fn are_distinct(keys: &[Key]) -> bool
     if ONE_WORD_MAX < keys.len() {
         return are_distinct_by_filter(keys);
     }
-    if keys.len() < 2 {
-        return true;
+    if keys.len() <= PAIRS_MAX {
+        return are_few_distinct(keys);
     }
     let mut word = 0u64;
     for at in 0..keys.len() {

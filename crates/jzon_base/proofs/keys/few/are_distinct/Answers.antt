@@ -1,4 +1,4 @@
-use Rattle.jzon_base.proofs.Common.{◌≡◌, ◌∙◌, ℕ, List, ◌<◌, ◌+◌, ◌++◌, ◌∷◌, [], length, take, refl, ap, arith, subst, sym}
+use Rattle.jzon_base.proofs.Common.{◌≡◌, ◌∙◌, ◌+◌, ◌++◌, ◌∷◌, [], take, refl, ap, arith, subst, sym}
 use Rattle.jzon_base.proofs.Common.{false, false≢true, All-nil, All-same, IsDistinct, bytes_eq, list_any, take_more}
 use Rattle.std.specs.Int.{bit_at}
 use Rattle.std.proofs.lemmas.Nat.Bits.{shr_and_one}
@@ -7,15 +7,6 @@ use Rattle.jzon_base.proofs.KeyIndex.Filters.{HasWordBit-push, missing_by, word_
 use Rattle.jzon_base.proofs.KeyIndex.Indexes.{IsDistinct-more, repeated}
 use Rattle.jzon_base.proofs.keys.few.are_distinct.Goals.{else-word-bit-eq1-via-then-word-bit-eq1+else-has_name, else-word-bit-eq1-via-else-word-bit-eq1}
 use Rattle.jzon_base.proofs.keys.few.are_distinct.Goals as goal
-
-at_most_one : (ks : List (List ℕ)) → length ks < 2 → IsDistinct bytes_eq ks
-unfolding IsDistinct
-at_most_one [] l = tt
-at_most_one (k ∷ []) l = (tt, tt)
-at_most_one (k ∷ j ∷ ks) l = absurd (omega (arith, l))
-
-pub returns-then-keys-lt2 : goal.returns-then-keys-lt2
-returns-then-keys-lt2 c = (λ _. at_most_one c.args.keys.now c.if-keys-lt2.true, λ _. refl)
 
 pub loop-at-init : goal.loop-at-init
 unfolding IsDistinct
