@@ -165,7 +165,8 @@ impl<'a> Parser<'a> {
         loop {
             if let Some(kind) = self.read_items()? {
                 self.stacks.open(kind)?;
-            } else if let Some(value) = self.end_containers()? {
+            } else if self.end_containers()? {
+                let value = self.stacks.finish()?;
                 return expect_end(&self.cursor, value);
             }
         }
@@ -263,27 +264,27 @@ impl<'a> Parser<'a> {
         Ok(Next::Item)
     }
 
-    /// Makes the value of the innermost container, which ended, adds it to the one around it, and
-    /// reads what follows it; repeats this as long as containers end. Returns `None` after a comma,
-    /// and the value of the outermost container if that ended.
+    /// Adds the innermost container, which ended, to the one around it, and reads what follows it;
+    /// repeats this as long as containers end. Returns whether the outermost one is reached, which
+    /// then has ended too; else a comma was read.
     #[inline(always)]
-    fn end_containers(&mut self) -> stop::Result<Option<JsonValue>>
+    fn end_containers(&mut self) -> stop::Result<bool>
         requires even { HasAllValues self.old.stacks.innermost.kind self.old.stacks.innermost }
         requires room { length self.old.stacks.around < self.old.cursor.reading.depth }
-        ensures strict { IfOk result (λ v. v ≡ None
-            → self.new.stacks.strict ≡ self.old.stacks.strict) }
+        ensures strict { OnOk result (self.new.stacks.strict ≡ self.old.stacks.strict) }
         ensures after { IfOk result (IsAfterEnd self.new.cursor self.new.stacks) }
         ensures outcome { PassesOn self.old.cursor (after_value (frames_around self.old.stacks)
             (whole self.old.stacks.innermost)) result self.new.cursor (after_end self.new.stacks) }
     {
         loop {
-            if let Some(value) = self.stacks.close()? {
-                return Ok(Some(value));
+            if self.stacks.depth() == 1 {
+                return Ok(true);
             }
+            self.stacks.close()?;
             let container = self.stacks.innermost_kind();
             let here = self.cursor.index;
             if !self.cursor.end_item(here, container)? {
-                return Ok(None);
+                return Ok(false);
             }
         }
     }

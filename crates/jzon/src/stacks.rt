@@ -109,51 +109,39 @@ fn grow(alloc: Global, values: &mut Vec<JsonValue>) -> Result<(), AllocError>
     Ok(())
 }
 
-/// Removes what is on the stack from `start` on, and returns it in a block of its exact size. The
-/// outermost container gets the stack's own block instead, unless it has outgrown the first room
-/// and more than half of it is unused.
+/// Removes the values of a nested container, which begin at `start`, and returns them, mostly in a
+/// block of their exact size. But many values keep the stack's block, if only few are before them
+/// and most of the block is used: the few are moved, because a copy of many touches new pages.
+/// After an error the values may be in another order.
 #[inline(always)]
-fn cut_tail<T>(
-    alloc: Global,
-    stack: &mut Vec<T>,
-    start: usize,
-    is_outermost: bool,
-) -> Result<Vec<T>, AllocError>
-    requires { start ≤ vec_len stack.old }
-    ensures items { OnOk result (stack.new.items ≡ take start stack.old.items) }
-    ensures tail { IfOk result (λ tail. tail.items ≡ drop start stack.old.items) }
-    ensures err { OnErr result (stack.new.items ≡ stack.old.items) }
-{
-    if is_outermost && start == 0 && stack.capacity() / 2 <= stack.len().max(FIRST_ROOM / 2) {
-        return Ok(mem::replace(stack, Vec::new(alloc)));
-    }
-    stack.split_off(start)
-}
-
-/// Removes the values from `start` on and returns them, mostly by `cut_tail`. But many values of a
-/// container that isn't the outermost keep the block, if only few are before them and most of the
-/// block is used: the few are moved, because a copy of many touches new pages. After an error the
-/// values may be in another order.
-#[inline(always)]
-fn cut_values(
-    alloc: Global,
-    stack: &mut Vec<JsonValue>,
-    start: usize,
-    is_outermost: bool,
-) -> Result<Vec<JsonValue>, AllocError>
+fn cut_values(stack: &mut Vec<JsonValue>, start: usize) -> Result<Vec<JsonValue>, AllocError>
     requires { start ≤ vec_len stack.old }
     ensures items { OnOk result (stack.new.items ≡ take start stack.old.items) }
     ensures tail { IfOk result (λ tail. tail.items ≡ drop start stack.old.items) }
     ensures err { OnErr result (vec_len stack.new ≡ vec_len stack.old) }
 {
     let count = stack.len() - start;
-    if LONG < count && !is_outermost && start <= count / 8 && stack.capacity() / 2 <= count {
+    if LONG < count && start <= count / 8 && stack.capacity() / 2 <= count {
         // Moves the values from `start` on to the front: they keep the block.
         stack.as_mut_slice().rotate_left(start);
         let front = stack.split_off(count)?;
         return Ok(mem::replace(stack, front));
     }
-    cut_tail(alloc, stack, start, is_outermost)
+    stack.split_off(start)
+}
+
+/// Takes all that is on the stack, for the outermost container: in the stack's own block, unless it
+/// has outgrown the first room and more than half of it is unused.
+#[inline(always)]
+fn take_all<T>(alloc: Global, stack: &mut Vec<T>) -> Result<Vec<T>, AllocError>
+    ensures items { OnOk result (stack.new.items ≡ []) }
+    ensures all { IfOk result (λ all. all.items ≡ stack.old.items) }
+    ensures err { OnErr result (stack.new.items ≡ stack.old.items) }
+{
+    if stack.capacity() / 2 <= stack.len().max(FIRST_ROOM / 2) {
+        return Ok(mem::replace(stack, Vec::new(alloc)));
+    }
+    stack.split_off(0)
 }
 
 /// In a strict reading: puts what is known of the keys of the innermost container on the stack
@@ -360,9 +348,8 @@ impl Stacks {
         Ok(())
     }
 
-    /// Removes the elements of the innermost container, which is an array that ended, and returns
-    /// them. A single one gets a block of one, also in the outermost container, where `cut_values`
-    /// would leave it the block of `FIRST_ROOM`.
+    /// Removes the elements of the innermost container, which is a nested array that ended, and
+    /// returns them. A single one is moved without the call that many take.
     #[inline(always)]
     fn end_array(&mut self) -> Result<Vec<JsonValue>, AllocError>
         requires { self.old.innermost.keys ≡ [] }
@@ -377,12 +364,11 @@ impl Stacks {
             }
             return Ok(one);
         }
-        let is_outermost = self.around.is_empty();
-        cut_values(self.alloc, &mut self.values, start, is_outermost)
+        cut_values(&mut self.values, start)
     }
 
-    /// Removes the entries of the innermost container, which is an object that ended, and returns
-    /// this object.
+    /// Removes the entries of the innermost container, which is a nested object that ended, and
+    /// returns this object.
     #[inline(always)]
     fn end_object(&mut self) -> Result<Object, AllocError>
         requires object { self.old.innermost.kind ≡ ContainerKind.Object }
@@ -390,14 +376,13 @@ impl Stacks {
         ensures object { IfOk result (λ object. view_object object ≡ whole self.old.innermost) }
         ensures ok { OnOk result (self.new ≡ innermost_ended self.old) }
     {
-        let is_outermost = self.around.is_empty();
         let Frame {
             first_key,
             first_value,
             ..
         } = self.innermost;
-        let values = cut_values(self.alloc, &mut self.values, first_value, is_outermost)?;
-        let keys = cut_tail(self.alloc, &mut self.keys, first_key, is_outermost)?;
+        let values = cut_values(&mut self.values, first_value)?;
+        let keys = self.keys.split_off(first_key)?;
         if self.known.is_some() {
             return object_of_known(self.alloc, keys, &mut self.known, values);
         }
@@ -405,16 +390,15 @@ impl Stacks {
     }
 
     /// Adds this value of the innermost container, which ended and has nothing left, to the one
-    /// around it. If there is none, the value is returned. After an error the stacks are
-    /// unspecified.
+    /// around it. After an error the stacks are unspecified.
     #[inline(always)]
-    fn close_with(&mut self, value: JsonValue) -> Result<Option<JsonValue>, AllocError>
-        requires { self.old.innermost ≡ new_container self.old.innermost.kind }
-        ensures outermost { IfOk result (λ v. IfSome v (λ w. (self.old.around ≡ []) × (w ≡ value))) }
-        ensures inner { IfOk result (λ v. v ≡ None → IsAdded self.old value self.new) }
+    fn close_with(&mut self, value: JsonValue) -> Result<(), AllocError>
+        requires ended { self.old.innermost ≡ new_container self.old.innermost.kind }
+        requires nested { 0 < length self.old.around }
+        ensures { OnOk result (IsAdded self.old value self.new) }
     {
         let Some(frame) = self.around.pop() else {
-            return Ok(Some(value));
+            unreachable!()
         };
         self.innermost = frame;
         if self.known.is_some() {
@@ -422,17 +406,16 @@ impl Stacks {
         }
         reserve_value(self.alloc, &mut self.values)?;
         self.values.push_reserved(value);
-        Ok(None)
+        Ok(())
     }
 
-    /// Ends the innermost container, which has a value for each key, as `close_with` does with its
-    /// value.
+    /// Ends the innermost container, which is a nested one and has a value for each key, as
+    /// `close_with` does with its value.
     #[inline(always)]
-    pub(crate) fn close(&mut self) -> Result<Option<JsonValue>, AllocError>
-        requires { HasAllValues self.old.innermost.kind self.old.innermost }
-        ensures outermost { IfOk result (λ v. IfSome v (λ w. (self.old.around ≡ [])
-            × (view w ≡ whole self.old.innermost))) }
-        ensures inner { IfOk result (λ v. v ≡ None → IsClosed self.old self.new) }
+    pub(crate) fn close(&mut self) -> Result<(), AllocError>
+        requires even { HasAllValues self.old.innermost.kind self.old.innermost }
+        requires nested { 0 < length self.old.around }
+        ensures { OnOk result (IsClosed self.old self.new) }
     {
         match self.innermost.kind {
             ContainerKind::Array => {
@@ -443,6 +426,48 @@ impl Stacks {
                 let object = self.end_object()?;
                 self.close_with(JsonValue::Object(object))
             }
+        }
+    }
+
+    /// Takes the elements of the outermost container, which is an array that ended. A single one
+    /// gets a block of one, where `take_all` would leave it the block of `FIRST_ROOM`.
+    #[inline(always)]
+    fn finish_array(&mut self) -> Result<Vec<JsonValue>, AllocError>
+        requires { self.old.around ≡ [] }
+        ensures { IfOk result (λ values. values.items ≡ self.old.innermost.values) }
+    {
+        if self.values.len() == 1 {
+            return self.values.split_off(0);
+        }
+        take_all(self.alloc, &mut self.values)
+    }
+
+    /// Takes the entries of the outermost container, which is an object that ended.
+    #[inline(always)]
+    fn finish_object(&mut self) -> Result<Object, AllocError>
+        requires object { self.old.innermost.kind ≡ ContainerKind.Object }
+        requires even { HasAllValues ContainerKind.Object self.old.innermost }
+        requires outermost { self.old.around ≡ [] }
+        ensures { IfOk result (λ object. view_object object ≡ whole self.old.innermost) }
+    {
+        let values = take_all(self.alloc, &mut self.values)?;
+        let keys = take_all(self.alloc, &mut self.keys)?;
+        if self.known.is_some() {
+            return object_of_known(self.alloc, keys, &mut self.known, values);
+        }
+        Object::from_entries(self.alloc, keys, values)
+    }
+
+    /// The value of the outermost container, which ended. Afterwards the stacks are unspecified.
+    #[inline(never)]
+    pub(crate) fn finish(&mut self) -> Result<JsonValue, AllocError>
+        requires even { HasAllValues self.old.innermost.kind self.old.innermost }
+        requires outermost { self.old.around ≡ [] }
+        ensures { IfOk result (λ v. view v ≡ whole self.old.innermost) }
+    {
+        match self.innermost.kind {
+            ContainerKind::Array => Ok(JsonValue::Array(self.finish_array()?)),
+            ContainerKind::Object => Ok(JsonValue::Object(self.finish_object()?)),
         }
     }
 }

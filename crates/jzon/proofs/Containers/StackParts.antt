@@ -46,6 +46,9 @@ keeps_cut n xs ys le e = record {
 pub keeps_same : {X : Type 0} (n : ℕ) (xs ys : List X) → n ≤ length xs → ys ≡ xs → Keeps n xs ys
 keeps_same n xs ys le e = record { within = omega (arith, le, ap length e); first = ap (take n) e }
 
+pub keeps_none : {X : Type 0} (n : ℕ) (xs ys : List X) → n ≡ 0 → Keeps n xs ys
+keeps_none n xs ys none = record { within = omega (arith, none); first = rw none refl }
+
 -- how s changes: the keys and values of the innermost container, and what a strict reading knows of these keys
 pub record IsChange (s : Inside) (ks : Vec (List ℕ) Global) (vs : Vec JsonValue Global) (known : Option KnownKeys) :
     Type 0 where
@@ -317,6 +320,45 @@ IsLaidOut-values_cut s ks vs h same cut = IsLaidOut-changed s ks vs s.known h (r
   strict = refl;
   knows = rw same (IfSome_then s.known h.known (λ l k. k.0));
 })
+
+-- ---- the outermost container has all that is on the stacks
+
+all_here : (fs : List Frame) (ks : List (List ℕ)) (vs : List JsonValue) (k v : ℕ) → containers_in fs ks vs ≡ []
+    → AreNested fs k v → (k ≡ 0) × (v ≡ 0)
+all_here [] ks vs k v none h = h
+all_here (f ∷ fs) ks vs k v none h = absurd (cc)
+
+module _ (s : Inside) (o : OpenContainers) (h : IsLaidOut s) (seen : containers_of s ≡ o) (none : o.around ≡ []) where
+  from_start : (s.innermost.first_key ≡ 0) × (s.innermost.first_value ≡ 0)
+  from_start = all_here (reverse s.around.items) (take s.innermost.first_key s.keys.items)
+      (take s.innermost.first_value s.values.items) s.innermost.first_key s.innermost.first_value
+      (ap (λ (p : OpenContainers). p.around) seen ∙ none) h.nested
+
+  pub keys_here : s.keys.items ≡ o.innermost.keys
+  keys_here = ap (λ n. drop n s.keys.items) (sym from_start.0) ∙ ap (λ (p : OpenContainers). p.innermost.keys) seen
+
+  pub values_here : s.values.items ≡ o.innermost.values
+  values_here =
+      ap (λ n. drop n s.values.items) (sym from_start.1) ∙ ap (λ (p : OpenContainers). p.innermost.values) seen
+
+  -- all of them may be taken
+  pub IsLaidOut-values_taken : (vs : Vec JsonValue Global) → IsLaidOut (record s { values = vs })
+  IsLaidOut-values_taken vs =
+      IsLaidOut-values s vs h (keeps_none s.innermost.first_value s.values.items vs.items from_start.1)
+
+  pub IsLaidOut-keys_left : (ks : Vec (List ℕ) Global) (vs : Vec JsonValue Global) → ks.items ≡ s.keys.items
+      → vs.items ≡ [] → IsLaidOut (record s { keys = ks; values = vs })
+  IsLaidOut-keys_left ks vs same cut =
+      IsLaidOut-values_cut s ks vs h same (cut ∙ ap (λ n. take n s.values.items) (sym from_start.1))
+
+  pub IsLaidOut-taken : (ks : Vec (List ℕ) Global) (vs : Vec JsonValue Global) (known : Option KnownKeys)
+      → is_some known ≡ is_some s.known → IfSome known (Knows ks.items) → IsLaidOut (changed s ks vs known)
+  IsLaidOut-taken ks vs known strict knows = IsLaidOut-changed s ks vs known h (record {
+    keys = keeps_none s.innermost.first_key s.keys.items ks.items from_start.0;
+    values = keeps_none s.innermost.first_value s.values.items vs.items from_start.1;
+    strict = strict;
+    knows = rw (from_start.0) knows;
+  })
 
 -- ---- the containers around are back, and the value of the one that ended is added
 

@@ -1,5 +1,5 @@
 -- The containers that are open at the parser's cursor, with what each holds so far, as the automaton sees them.
-use Rattle.std.specs.Prelude.{◌≡◌, ◌≢◌, ◌+◌, ◌<◌, ℕ, Bool, Option, Some, None, List, [], ◌∷◌, ◌++◌, length, map}
+use Rattle.std.specs.Prelude.{◌≡◌, ◌≢◌, ◌+◌, ◌<◌, ℕ, Bool, true, false, Option, Some, None, List, [], ◌∷◌, ◌++◌, length, map}
 use Rattle.std.specs.List.{zip}
 use Rattle.jzon_base.specs.PairList.{put_each}
 use Rattle.jzon_tree.specs.Value.{Value, array, values_of, object, pairs_of}
@@ -137,15 +137,15 @@ IsAfterItems t s None = HasAllValues s.innermost.kind s.innermost
 IsAfterItems t s (Some b) =
     AwaitsValue s.innermost.kind s.innermost × (length s.around + 1 < t.reading.depth) × (next_byte t ≢ closer b)
 
--- the state after a container that ended, of which `outermost` is the value if it was the outermost one
-abbrev pub after_end : OpenContainers → Option JsonValue → State
-after_end s None = before_item s
-after_end s (Some v) = after_value no_frames (view v)
+-- the state after containers that ended: the innermost one ended if it is the outermost too
+abbrev pub after_end : OpenContainers → Bool → State
+after_end s false = before_item s
+after_end s true = after_items s None
 
--- an element or a key comes next, unless the outermost container ended
-abbrev pub IsAfterEnd : Cursor → OpenContainers → Option JsonValue → Type 0
-IsAfterEnd t s None = IsBeforeItem t s
-IsAfterEnd t s (Some v) = Unit {0}
+-- an element or a key comes next, or the innermost container, which ended, is the outermost one
+abbrev pub IsAfterEnd : Cursor → OpenContainers → Bool → Type 0
+IsAfterEnd t s false = IsBeforeItem t s
+IsAfterEnd t s true = (s.around ≡ []) × HasAllValues s.innermost.kind s.innermost
 
 -- the value of the innermost container of s, which ended, was added to the one around it
 pub record IsAdded (s : OpenContainers) (value : JsonValue) (t : OpenContainers) : Type 0 where

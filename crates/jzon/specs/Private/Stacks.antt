@@ -1,5 +1,5 @@
 -- How the parser's two stacks hold the open containers: each has a part of the keys and a part of the values.
-use Rattle.std.specs.Prelude.{◌≤◌, ℕ, List, [], ◌∷◌, take, drop, reverse, vec_len, IfSome}
+use Rattle.std.specs.Prelude.{◌≡◌, ◌≤◌, ℕ, List, [], ◌∷◌, take, drop, reverse, vec_len, IfSome}
 use Rattle.std.specs.Option.{is_some}
 use Rattle.jzon_base.specs.Private.KnownKeys.{Knows}
 use Rattle.jzon_base.specs.declared.keys.known.KnownKeys.{KnownKeys}
@@ -27,9 +27,10 @@ containers_of s = record {
       (take s.innermost.first_value s.values.items);
 }
 
--- each of these frames, the innermost first, begins where the one around it does, or later; the last ends at k and v
+-- each of these frames, the innermost first, begins where the one around it does, or later, and the outermost where the stacks
+-- do; the one inside of them begins at k and v
 abbrev pub AreNested : List Frame → ℕ → ℕ → Type 0
-AreNested [] k v = Unit {0}
+AreNested [] k v = (k ≡ 0) × (v ≡ 0)
 AreNested (f ∷ fs) k v = (f.first_key ≤ k) × (f.first_value ≤ v) × AreNested fs f.first_key f.first_value
 
 -- of each container around another one a value comes next

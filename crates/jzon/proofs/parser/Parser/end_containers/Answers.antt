@@ -9,17 +9,17 @@ use Rattle.jzon.proofs.Texts.Cursors.{Reached, reached, goes_after, fails_on}
 use Rattle.jzon.proofs.parser.Parser.end_containers.Goals.{After-end_item}
 use Rattle.jzon.proofs.parser.Parser.end_containers.Goals as goal
 
-closed : (c : After-end_item) → IsClosed c.loop-value.self.stacks c.close.new.self
-closed c = c.in_ok-value.ensures.inner c.in_default.is
+closed : (c : After-end_item) → IsClosed c.loop-self.self.stacks c.close.new.self
+closed c = c.in_ok-close.ensures
 
 came : (c : After-end_item) → Reached c.args.self.now.cursor
     (after_value (frames_around c.args.self.now.stacks) (whole c.args.self.now.stacks.innermost))
-    c.loop-value.self.cursor (after_value (frames_here (outer_of (closed c))) (view (closed c).value))
+    c.loop-self.self.cursor (after_value (frames_here (outer_of (closed c))) (view (closed c).value))
 came c = record {
-  text = c.loop-value.invariant.came.text;
-  reading = c.loop-value.invariant.came.reading;
-  within = c.loop-value.invariant.came.within;
-  same = c.loop-value.invariant.came.same ∙ ap (left c.loop-value.self.cursor) (closed_in (closed c));
+  text = c.loop-self.invariant.came.text;
+  reading = c.loop-self.invariant.came.reading;
+  within = c.loop-self.invariant.came.within;
+  same = c.loop-self.invariant.came.same ∙ ap (left c.loop-self.self.cursor) (closed_in (closed c));
 }
 
 pub returns-in_err-end_item-clause-outcome : goal.returns-in_err-end_item-clause-outcome
@@ -39,7 +39,7 @@ returns-then-not-branch-clause-after c =
     added_before _ (outer_of (closed at)) _ (closed at).value (closed at).added.awaits (closed at).added.closed
     (omega (
       arith,
-      c.loop-value.invariant.room,
+      c.loop-self.invariant.room,
       ap length (closed at).added.around,
       ap (λ r. r.depth) ends.0.reading,
     ))
@@ -53,24 +53,24 @@ returns-then-not-branch-clause-outcome c s o h =
     (c.in_ok-end_item.ensures _ (frames_here (outer_of (closed at))) (view (closed at).value)
     (outer_kind (closed at) _ c.innermost_kind-container.ensures) refl))
 
-pub loop-value-smaller : goal.loop-value-smaller
-loop-value-smaller c =
-    let at = (goal.at.loop-value-smaller c).After-end_item in
+pub loop-self-smaller : goal.loop-self-smaller
+loop-self-smaller c =
+    let at = (goal.at.loop-self-smaller c).After-end_item in
     let ends = c.in_ok-end_item.ensures _ (frames_here (outer_of (closed at))) (view (closed at).value)
     (outer_kind (closed at) _ c.innermost_kind-container.ensures) refl in
     omega (arith, ends.0.index, ap length ends.0.text, c.end_item.new.self.boundary.0)
 
-pub loop-value-preserved : goal.loop-value-preserved
-loop-value-preserved c =
-    let at = (goal.at.loop-value-preserved c).After-end_item in
+pub loop-self-preserved : goal.loop-self-preserved
+loop-self-preserved c =
+    let at = (goal.at.loop-self-preserved c).After-end_item in
     let ends = c.in_ok-end_item.ensures _ (frames_here (outer_of (closed at))) (view (closed at).value)
     (outer_kind (closed at) _ c.innermost_kind-container.ensures) refl in
     record {
-      strict = ap (λ z. z.strict) (closed at).added.closed ∙ c.loop-value.invariant.strict;
+      strict = ap (λ z. z.strict) (closed at).added.closed ∙ c.loop-self.invariant.strict;
       even = added_even (outer_of (closed at)) _ (closed at).value (closed at).added.awaits (closed at).added.closed;
       room = omega (
         arith,
-        c.loop-value.invariant.room,
+        c.loop-self.invariant.room,
         ap length (closed at).added.around,
         ap (λ z. length z.around) (closed at).added.closed,
         ap (λ r. r.depth) ends.0.reading,

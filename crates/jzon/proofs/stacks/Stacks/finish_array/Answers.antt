@@ -1,0 +1,25 @@
+use Rattle.jzon_base.proofs.Common.{◌∙◌, Result, Ok, Err, IfOk}
+use Rattle.jzon.proofs.Containers.StackParts.{IsLaidOut-values_taken, values_here}
+use Rattle.jzon.proofs.stacks.Stacks.finish_array.Goals as goal
+
+if_ok : {T E : Type 0} (P Q : T → Type 0) (r : Result T E) → ((x : T) → P x → Q x) → IfOk r P → IfOk r Q
+if_ok P Q (Ok x) f h = f x h
+if_ok P Q (Err e) f h = tt
+
+pub invariant_of-self : goal.invariant_of-self
+invariant_of-self c = IsLaidOut-values_taken c.self.inside c.args.self.now c.self.invariant c.self.view_is c.requires
+    c.split_off.new.self
+
+pub invariant_of-self-2 : goal.invariant_of-self-2
+invariant_of-self-2 c = IsLaidOut-values_taken c.self.inside c.args.self.now c.self.invariant c.self.view_is c.requires
+    c.take_all.new.stack
+
+pub returns-then-len-eq1 : goal.returns-then-len-eq1
+returns-then-len-eq1 c = if_ok _ _ c.split_off.result
+    (λ all same. same ∙ values_here c.self.inside c.args.self.now c.self.invariant c.self.view_is c.requires)
+    c.split_off.ensures.tail
+
+pub returns : goal.returns
+returns c = if_ok _ _ c.take_all.result
+    (λ all same. same ∙ values_here c.self.inside c.args.self.now c.self.invariant c.self.view_is c.requires)
+    c.take_all.ensures.all
