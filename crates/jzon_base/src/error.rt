@@ -154,7 +154,8 @@ impl<T: Drop> From<AllocFailed<T>> for Error {
 
 /// So that `?` works in a `main` that returns an `io::Result`. The kind is `OutOfMemory`,
 /// `UnexpectedEof` if the text ends too early, or else `InvalidData`. The message is what `Display`
-/// prints; a word of `WrongType` that doesn't fit into its 80 bytes is left out.
+/// prints; of more than 80 bytes, which is all that an `io::Error` keeps, the end is cut, with dots
+/// in its place.
 impl From<Error> for io::Error {
     ghost from_gives = { λ e i. error_kind i ≡ io_kind e };
 
@@ -163,15 +164,36 @@ impl From<Error> for io::Error {
     }
 }
 
-/// An `io::Error` of this kind, whose message is what `Display` prints. From the first part on that
-/// doesn't fit into 80 bytes, the message is left out.
+/// An `io::Error` of this kind, whose message is what `Display` prints. Of more than 80 bytes the
+/// end is cut, with dots in its place.
 #[doc(hidden)]
 pub fn io_error<T: fmt::Display>(kind: ErrorKind, error: &T) -> io::Error
     ensures { error_kind result ≡ kind }
 {
-    let mut words = ArrayString::<80>::new();
-    match write!(words, "{error}") {
+    let mut head = Head {
+        words: ArrayString::new(),
+    };
+    match write!(head, "{error}") {
         Ok(()) | Err(_) => {}
     }
-    io::Error::new(kind, words.as_str())
+    io::Error::new(kind, head.words.as_str())
+}
+
+/// The first characters of a message, up to one that doesn't fit: then they have more than 80 bytes,
+/// so that `io::Error::new` puts the dots.
+#[derive(Drop)]
+struct Head {
+    words: ArrayString<84>,
+}
+
+impl fmt::Write for Head {
+    /// Takes the part character by character, and fails at the first that doesn't fit.
+    fn write_str(&mut self, part: &str) -> fmt::Result {
+        for c in part.chars() {
+            if self.words.try_push(c).is_err() {
+                return Err(fmt::Error);
+            }
+        }
+        Ok(())
+    }
 }

@@ -259,7 +259,7 @@ fn raises_io_errors(rt: HostRuntime) -> Result<(), Fail> {
         &rt,
         "too long",
         raised.as_str(),
-        "Wrong type, expected: a word of more than fifty bytes, as no value's kind has it",
+        "Wrong type, expected: a word of more than fifty bytes, as no value's kind has...",
     );
     let long = format!(in alloc; "{word}, {word}")?;
     let cut = format!(in alloc; "{}", io::Error::new(ErrorKind::Other, long.as_str()))?;

@@ -1,6 +1,6 @@
 -- What the position of a key says of a list of entries.
 use Rattle.jzon_base.proofs.Common.{◌≡◌, ℕ, zero, suc, ◌<◌, Bool, true, false, List, [], ◌∷◌, ◌++◌, length, get_or, set}
-use Rattle.jzon_base.proofs.Common.{None, Some, IsSome, refl, sym, ap, ◌∙◌, arith, position-Some, none-some, same_Some}
+use Rattle.jzon_base.proofs.Common.{None, Some, refl, sym, ap, ◌∙◌, arith, position-Some, none-some, same_Some}
 use Rattle.jzon_base.proofs.Common.{slice_get-map, nat_list_eq_equiv, option_map, position, remove, slice_get, zip}
 use Rattle.jzon_base.proofs.Common.{bytes_eq}
 use Rattle.jzon_base.specs.PairList.{keys_of, values_of, find, put, cut, set_value, with_default}
@@ -84,15 +84,6 @@ module _ {V : Type 0} where
   pub put-with_default : (k : List ℕ) (v w : V) (ps : List (List ℕ × V)) → put k w (with_default k v ps) ≡ put k w ps
   put-with_default k v w [] = rw (nat_list_eq_equiv.refl k)
   put-with_default k v w (x ∷ ps) = put-default-by (bytes_eq x.0 k) k v w x ps refl (put-with_default k v w ps)
-
-  find-with_default-by : (b : Bool) (k : List ℕ) (v : V) (x : List ℕ × V) (ps : List (List ℕ × V)) → bytes_eq x.0 k ≡ b
-      → IsSome (find k (with_default k v ps)) → IsSome (find k (with_default k v (x ∷ ps)))
-  find-with_default-by true k v x ps e h = rw (e, e) refl
-  find-with_default-by false k v x ps e h = rw (e, e) h
-
-  pub find-with_default : (k : List ℕ) (v : V) (ps : List (List ℕ × V)) → IsSome (find k (with_default k v ps))
-  find-with_default k v [] = rw (nat_list_eq_equiv.refl k) refl
-  find-with_default k v (x ∷ ps) = find-with_default-by (bytes_eq x.0 k) k v x ps refl (find-with_default k v ps)
 
   find-absent : (k : List ℕ) (ps : List (List ℕ × V)) → IsAbsent k (keys_of ps) → find k ps ≡ None
   find-absent k [] h = refl

@@ -1,15 +1,11 @@
 -- Entries put one after the other.
 use Rattle.jzon_base.proofs.Common.{◌≡◌, ◌∙◌, ℕ, List, [], ◌∷◌, ◌++◌, Bool, true, false, cond, length, refl, sym, ap}
 use Rattle.jzon_base.proofs.Common.{subst, append_assoc, append-nil, fold, zip, AllByRecursion, IsDistinct, bytes_eq}
-use Rattle.jzon_base.proofs.Common.{fold-append, IsDistinct-head, IsDistinct-tail}
+use Rattle.jzon_base.proofs.Common.{IsDistinct-head, IsDistinct-tail}
 use Rattle.jzon_base.specs.PairList.{keys_of, put, put_each}
 use Rattle.jzon_base.proofs.Entries.Zips.{AreParts-zip}
 
 module _ {V : Type 0} where
-  pub put_each-push : (ps : List (List ℕ × V)) (k : List ℕ) (v : V)
-      → put_each (ps ++ (k, v) ∷ []) ≡ put k v (put_each ps)
-  put_each-push ps k v = fold-append (λ qs p. put p.0 p.1 qs) [] ps ((k, v) ∷ [])
-
   -- ---- entries of distinct keys stay as they are
 
   key_within : (P : List ℕ → Type 0) (qs ps : List (List ℕ × V)) (p : List ℕ × V)

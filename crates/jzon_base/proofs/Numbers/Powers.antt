@@ -13,7 +13,7 @@ too_large m p some large = omega (arith, mul-le-mul_right p some, large)
 pub power_pos : (k : ℕ) → 0 < 10 ^ k
 power_pos k = one-le-pow k 10 (omega arith)
 
-cancel : (a b t : ℕ) → 0 < t → a * t ≡ b * t → a ≡ b
+pub cancel : (a b t : ℕ) → 0 < t → a * t ≡ b * t → a ≡ b
 cancel a b t h e = sym (mul-div_cancel a h) ∙ ap (λ x. x / t) e ∙ mul-div_cancel b h
 
 -- a test for equality after both sides are multiplied

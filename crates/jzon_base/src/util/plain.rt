@@ -30,6 +30,7 @@ pub fn plain_len(bytes: &[u8]) -> usize
     plain_after_half(bytes)
 }
 
+/// The length of the plain prefix of fewer than `HALF` bytes.
 #[inline(never)]
 fn plain_in_few(bytes: &[u8]) -> usize
     requires { length bytes.now < HALF }
@@ -42,6 +43,7 @@ fn plain_in_few(bytes: &[u8]) -> usize
     }
 }
 
+/// The length of the plain prefix, byte by byte.
 fn plain_by_bytes(bytes: &[u8]) -> usize
     ensures { result ≡ prefix_len is_plain bytes.now }
 {

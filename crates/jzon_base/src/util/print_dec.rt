@@ -179,6 +179,7 @@ fn push_small_exponent(text: &mut NumberText, count: usize, places: usize)
     text.push_str(buffer.format((places + 1 - count) as u16));
 }
 
+/// Appends digits, with a point after the first if there are more.
 fn push_point_after_first(text: &mut NumberText, digits: &str)
     requires ascii { IsAscii digits.now }
     requires room { array_string_len text.old + length digits.now + 1 ≤ 29 }
