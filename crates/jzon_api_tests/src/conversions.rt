@@ -170,12 +170,6 @@ impl Clone for Counted<'_> {
 }
 
 impl IntoJson for Counted<'_> {
-    ghost use Rattle.std.specs.Prelude.{◌≡◌};
-
-    ghost means = { λ _ v. v ≡ v };
-
-    ghost is_free = { λ _. ⊥ };
-
     fn into_json(self, alloc: Global) -> Result<JsonValue> {
         let count = self.0.conversions.get();
         self.0.conversions.set(count.saturating_add(1));

@@ -27,7 +27,8 @@ const INSERTED: &[(&str, &str)] = &[
 fn inserts(rt: HostRuntime) -> Tested {
     for (before, after) in INSERTED {
         let mut object = object_of(rt.alloc(), before)?;
-        object.insert(rt.alloc(), "a", number(9))?;
+        let alloc = object.allocator();
+        object.insert(alloc, "a", number(9))?;
         expect_text(&rt, &object, after);
     }
     Ok(())

@@ -71,10 +71,6 @@ pub fn each_unread(alloc: Global) -> Result<[(&'static str, JsonValue); 8]> {
 pub struct Unconvertible;
 
 impl IntoJson for Unconvertible {
-    ghost means = { λ _ v. v ≡ v };
-
-    ghost is_free = { λ _. ⊥ };
-
     fn into_json(self, _alloc: Global) -> Result<JsonValue> {
         Err(Error::OutOfMemory)
     }

@@ -12,20 +12,13 @@ use jzon_base::error::{Error, Result};
 use jzon_base::short::{MAX_LEN, Short};
 use std::alloc::Global;
 
-/// Types that convert into a value. An implementation says by the relation `means` which values a
-/// source means, and an `Ok` is one of them; and by `is_free` for which sources it never fails.
+/// Types that convert into a value. An implementation may say by the relation `means` which values
+/// a source means, and an `Ok` is one of them; and by `is_free` for which sources it never fails.
 ///
-/// In this example `means` holds of each value, so that a caller learns nothing of the value, and
-/// `is_free` holds of no source:
+/// An `impl` without them promises nothing of the value, and may fail for each source:
 ///
 /// ```rust
 /// impl IntoJson for Server {
-///     ghost use Rattle.std.specs.Prelude.{◌≡◌};
-///
-///     ghost means = { λ _ v. v ≡ v };
-///
-///     ghost is_free = { λ _. ⊥ };
-///
 ///     fn into_json(self, alloc: Global) -> Result<JsonValue> {
 ///         let mut value = JsonValue::new_object(alloc);
 ///         value.insert(alloc, "host", self.host)?;
@@ -36,9 +29,9 @@ use std::alloc::Global;
 /// }
 /// ```
 pub trait IntoJson: Drop {
-    ghost means: { Self → Value → Type 0 };
+    ghost means: { Self → Value → Type 0 } = { λ _ _. ⊤ };
 
-    ghost is_free: { Self → Type 0 };
+    ghost is_free: { Self → Type 0 } = { λ _. ⊥ };
 
     /// Converts into a value. Fails with `OutOfMemory` only, and never if `is_free` holds.
     fn into_json(self, alloc: Global) -> Result<JsonValue>

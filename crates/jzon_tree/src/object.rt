@@ -150,6 +150,11 @@ impl Object {
         Ok(Object { pairs })
     }
 
+    /// The allocator that the object was made with, for calls on its values and keys.
+    pub fn allocator(&self) -> Global {
+        self.pairs.allocator()
+    }
+
     /// The number of entries. By the clause `distinct` no key repeats.
     pub fn len(&self) -> usize
         ensures len { result ≡ length (entries_of self.now) }

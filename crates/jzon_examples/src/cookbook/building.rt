@@ -42,14 +42,8 @@ pub struct Server {
     pub tags: Vec<String>,
 }
 
-/// A server as an object, of which no contract says more: `v ≡ v` holds of each value.
+/// A server as an object, of which no contract says more.
 impl IntoJson for Server {
-    ghost use Rattle.std.specs.Prelude.{◌≡◌};
-
-    ghost means = { λ _ v. v ≡ v };
-
-    ghost is_free = { λ _. ⊥ };
-
     fn into_json(self, alloc: Global) -> Result<JsonValue> {
         let mut value = JsonValue::new_object(alloc);
         value.insert(alloc, "host", self.host)?;
@@ -67,12 +61,6 @@ pub enum Shape {
 }
 
 impl IntoJson for Shape {
-    ghost use Rattle.std.specs.Prelude.{◌≡◌};
-
-    ghost means = { λ _ v. v ≡ v };
-
-    ghost is_free = { λ _. ⊥ };
-
     fn into_json(self, alloc: Global) -> Result<JsonValue> {
         Ok(match self {
             Shape::Circle { radius } => { jzon::object! {alloc; "type": "circle", radius: radius} }

@@ -36,23 +36,23 @@ module _ (whole bs run : List ℕ) (n : ℕ) (p : run ≡ take n bs) (e : n ≡ 
 
 mutual
   -- it is the same at each depth
-  same_depth : (d e : ℕ) (v : Value) → layout_text compact_layout d v ≡ layout_text compact_layout e v
+  pub same_depth : (d e : ℕ) (v : Value) → layout_text compact_layout d v ≡ layout_text compact_layout e v
   same_depth d e (array (value v vs)) = λ i. 91 ∷ (same_depth (suc d) (suc e) v i ++ same_values d e vs i)
   same_depth d e (object (pair k v ps)) =
       λ i. 123 ∷ (((quoted k ++ 58 ∷ []) ++ same_depth (suc d) (suc e) v i) ++ same_pairs d e ps i)
   same_depth d e _ = refl
 
-  same_values : (d e : ℕ) (vs : Values) → more_values_text compact_layout d vs ≡ more_values_text compact_layout e vs
+  pub same_values : (d e : ℕ) (vs : Values) → more_values_text compact_layout d vs ≡ more_values_text compact_layout e vs
   same_values d e no_values = refl
   same_values d e (value v vs) = λ i. 44 ∷ (same_depth (suc d) (suc e) v i ++ same_values d e vs i)
 
-  same_pairs : (d e : ℕ) (ps : ValuePairs) → more_pairs_text compact_layout d ps ≡ more_pairs_text compact_layout e ps
+  pub same_pairs : (d e : ℕ) (ps : ValuePairs) → more_pairs_text compact_layout d ps ≡ more_pairs_text compact_layout e ps
   same_pairs d e no_pairs = refl
   same_pairs d e (pair k v ps) =
       λ i. 44 ∷ (((quoted k ++ 58 ∷ []) ++ same_depth (suc d) (suc e) v i) ++ same_pairs d e ps i)
 
 -- these texts with a comma before each, except perhaps before the first, and the bracket
-abbrev texts_left : ℕ → Bool → List (List ℕ) → List ℕ
+abbrev pub texts_left : ℕ → Bool → List (List ℕ) → List ℕ
 texts_left close comma [] = close ∷ []
 texts_left close comma (t ∷ ts) = comma_text comma ++ (t ++ texts_left close true ts)
 

@@ -42,9 +42,6 @@ IsAscii-true (c ∷ cs) h =
     let t = and_parts (nat_lt c 128) (are_ascii cs) h in
     IsAscii-cons c cs (ltb-true c 128 t.0) (IsAscii-true cs t.1)
 
-IsAscii-after : (prefix bs : List ℕ) → are_ascii prefix ≡ true → IsAscii bs → IsAscii (prefix ++ bs)
-IsAscii-after prefix bs e h = IsAscii-append prefix bs (IsAscii-true prefix e) h
-
 -- ---- numbers
 module _ (ds : List ℕ) (h : IsAscii ds) where
   ascii-point : (k : ℕ) → IsAscii (point_after k ds)

@@ -107,9 +107,6 @@ pub record AreReadable (vs : List Value) (depth : ℕ) : Type 0 where
   pub clear : HaveNoNan (values_of vs)
   pub shallow : nest (array (values_of vs)) ≤ depth
 
-pub readable_none : (depth : ℕ) → AreReadable [] depth
-readable_none depth = record { values = tt; clear = tt; shallow = omega arith }
-
 pub readable_more : (vs : List Value) (v : Value) (depth : ℕ) → AreReadable vs depth → IsValue v
     → HasNoNan v × (nest v < depth) → AreReadable (vs ++ v ∷ []) depth
 readable_more vs v depth h k l = record {

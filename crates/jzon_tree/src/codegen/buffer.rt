@@ -20,6 +20,7 @@ pub struct Buffer {
 impl Buffer {
     ghost use Rattle.jzon_tree.specs.Private.Buffer.{buffer_items};
 
+    /// A buffer that holds nothing.
     #[inline(always)]
     pub(super) fn new() -> Buffer
         ensures items { buffer_items result ≡ [] }

@@ -12,6 +12,7 @@ use std::io::Write;
 /// names no struct with a ghost field, beside whose `&mut` the borrow checker admits no other type
 /// arguments.
 pub(crate) trait Outlet: Write {
+    /// Adds the piece if it is short, there is room for it and it needs no escape.
     fn put<P: Piece>(&mut self, piece: P) -> bool
         ensures done { IsTrue result → Adds (Just (P.text piece))
             (Self.Write.contents self.old) (Self.Write.contents self.new) }

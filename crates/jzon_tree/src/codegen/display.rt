@@ -47,6 +47,7 @@ fn show<W: fmt::Write>(value: &JsonValue, f: &mut fmt::Formatter<W>) -> fmt::Res
     }
 }
 
+/// Shows the elements with their commas, in brackets.
 #[cycle(show)]
 fn show_array<W: fmt::Write>(items: &[JsonValue], f: &mut fmt::Formatter<W>) -> fmt::Result
     ensures { WritesOnOk W.write_str_gives f.old result
@@ -60,6 +61,7 @@ fn show_array<W: fmt::Write>(items: &[JsonValue], f: &mut fmt::Formatter<W>) -> 
     f.write_str("]")
 }
 
+/// Shows the entries with their commas and colons, in braces.
 #[cycle(show)]
 fn show_object<W: fmt::Write>(object: &Object, f: &mut fmt::Formatter<W>) -> fmt::Result
     ensures { WritesOnOk W.write_str_gives f.old result (compact (view_object object.now)) f.new }
@@ -76,6 +78,7 @@ fn show_object<W: fmt::Write>(object: &Object, f: &mut fmt::Formatter<W>) -> fmt
     f.write_str("}")
 }
 
+/// Shows a comma, except before the first item.
 fn show_comma<W: fmt::Write>(comma: bool, f: &mut fmt::Formatter<W>) -> fmt::Result
     ensures { WritesOnOk W.write_str_gives f.old result (comma_text comma) f.new }
 {

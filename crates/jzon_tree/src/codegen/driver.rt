@@ -111,6 +111,7 @@ fn write_array<G: Generator>(g: &mut G, items: &[JsonValue], slot: &mut ErrorSlo
     close(g, b']', slot)
 }
 
+/// Writes the elements of an array, each on its line and after a comma, except the first.
 #[cycle(write_value)]
 fn write_items<G: Generator>(g: &mut G, items: &[JsonValue], slot: &mut ErrorSlot) -> SlotResult<()>
     ensures written { PrintsIf (AreValues (view_values items.now))
@@ -205,6 +206,7 @@ fn write_pair<G: Generator>(
     write_value(g, value, slot)
 }
 
+/// Writes what precedes an item: a comma, except before the first, and a new line.
 #[inline(always)]
 fn begin_item<G: Generator>(g: &mut G, comma: bool, slot: &mut ErrorSlot) -> SlotResult<()>
     ensures bytes { Emits (IsBetween (G.meaning g.old).style (G.meaning g.old).dent comma)

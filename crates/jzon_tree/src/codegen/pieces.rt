@@ -3,6 +3,7 @@
 ghost use Rattle.std.specs.Prelude.{◌≡◌, ◌+◌, ◌<◌, ◌≤◌, ◌++◌, ◌∷◌, [], ⊤, ℕ, List, None, IfNone, IfSome, IsTrue, length, take, drop, replicate};
 ghost use Rattle.jzon_base.specs.Decimal.{parts_of};
 ghost use Rattle.jzon_base.specs.NumberText.{IsCommon, written_text};
+ghost use Rattle.jzon_base.specs.Tokens.{minus_sign, quotation_mark};
 ghost use Rattle.jzon_tree.specs.Text.{quoted};
 ghost use Rattle.jzon_tree.specs.Writing.{colon_text};
 
@@ -88,7 +89,7 @@ impl Piece for Quoted<'_> {
 
     ghost is_short = { λ string. length string.0.now ≤ 32 };
 
-    ghost seed_bytes = { λ _. replicate 34 34 };
+    ghost seed_bytes = { λ _. replicate 34 quotation_mark };
 
     #[inline(always)]
     fn seed(self) -> Option<&'static [u8]> {
@@ -113,7 +114,7 @@ impl Piece for QuotedKey<'_> {
 
     ghost is_short = { λ key. length key.0.now ≤ 32 };
 
-    ghost seed_bytes = { λ _. replicate 36 34 };
+    ghost seed_bytes = { λ _. replicate 36 quotation_mark };
 
     #[inline(always)]
     fn seed(self) -> Option<&'static [u8]> {
@@ -139,7 +140,7 @@ impl Piece for Number {
     // The parts of NaN have the mantissa 0.
     ghost is_short = { λ number. IsCommon (parts_of number).1 (parts_of number).2 };
 
-    ghost seed_bytes = { λ _. replicate 48 45 };
+    ghost seed_bytes = { λ _. replicate 48 minus_sign };
 
     #[inline(always)]
     fn seed(self) -> Option<&'static [u8]> {

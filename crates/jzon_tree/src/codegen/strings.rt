@@ -2,6 +2,7 @@
 
 ghost use Rattle.std.specs.Prelude.{◌≡◌, ◌+◌, ◌≤◌, ◌++◌, false, None, length, take, drop, replicate, IsTrue, IfSome};
 ghost use Rattle.jzon_base.specs.Private.PlainBytes.{is_plain};
+ghost use Rattle.jzon_base.specs.Tokens.{quotation_mark};
 ghost use Rattle.jzon_tree.specs.Private.Printing.{PutsPlain};
 ghost use Rattle.jzon_tree.specs.Text.{escaped_byte, quoted};
 
@@ -18,8 +19,9 @@ pub(super) const BY_ENDS_MAX_LEN: usize = 32;
 /// The room that such a string takes with its quotes, at most.
 pub(super) const BY_ENDS_ROOM: usize = BY_ENDS_MAX_LEN + 2;
 
-/// Puts a string of at most 32 bytes in quotes at an offset if it needs no escape, and returns its
-/// end. The bytes before the offset stay; if `seeded`, the next 34 are quotes already.
+/// Puts a string of at most `BY_ENDS_MAX_LEN` bytes in quotes at an offset if it needs no escape, and
+/// returns its end. The bytes before the offset stay; if `seeded`, the next `BY_ENDS_ROOM` are quotes
+/// already.
 #[inline(always)]
 pub(super) fn put_quoted(
     room: &mut [u8],
@@ -27,9 +29,10 @@ pub(super) fn put_quoted(
     string: &[u8],
     seeded: bool,
 ) -> Option<usize>
-    requires few { length string.now ≤ 32 }
-    requires room { start + 34 ≤ length room.old }
-    requires quotes { IsTrue seeded → take 34 (drop start room.old) ≡ replicate 34 34 }
+    requires few { length string.now ≤ BY_ENDS_MAX_LEN }
+    requires room { start + BY_ENDS_ROOM ≤ length room.old }
+    requires quotes { IsTrue seeded → take BY_ENDS_ROOM (drop start room.old)
+        ≡ replicate BY_ENDS_ROOM quotation_mark }
     ensures text { IfSome result (λ end. take end room.new
         ≡ take start room.old ++ quoted string.now) }
     ensures end { IfSome result (λ end. end ≡ start + (length string.now + 2)) }
@@ -47,7 +50,7 @@ pub(super) fn put_quoted(
     Some(end)
 }
 
-/// Puts a string of at most 32 bytes at an offset if it needs no escape, and returns whether it
+/// Puts a string of at most `BY_ENDS_MAX_LEN` bytes at an offset if it needs no escape, and returns whether it
 /// did. The byte after the string stays, which is the closing quote of the caller.
 #[inline(always)]
 fn put_if_plain(bytes: &mut [u8], offset: usize, string: &[u8]) -> bool

@@ -80,6 +80,7 @@ pub(crate) fn inspect(value: &JsonValue) -> Inspection
     }
 }
 
+/// As `inspect`, of an object.
 #[cycle(inspect)]
 pub(crate) fn inspect_object(object: &Object) -> Inspection
     ensures { IsInspected (view_object object.now) result.nest }
@@ -94,6 +95,7 @@ pub(crate) fn inspect_object(object: &Object) -> Inspection
     found
 }
 
+/// As `inspect`, of an array.
 #[cycle(inspect)]
 fn inspect_items(items: &[JsonValue]) -> Inspection
     ensures { IsInspected (array (view_values items.now)) result.nest }

@@ -49,6 +49,7 @@ fn is_readable_inside(value: &JsonValue, depth: u16) -> bool
     0 < depth && is_readable(value, depth - 1)
 }
 
+/// As `is_readable`, of an object.
 #[cycle(is_readable)]
 fn is_object_readable(object: &Object, depth: u16) -> bool
     ensures value { IsTrue result → IsValue (view_object object.now) }
@@ -64,6 +65,7 @@ fn is_object_readable(object: &Object, depth: u16) -> bool
     true
 }
 
+/// As `is_readable`, of an array.
 #[cycle(is_readable)]
 fn are_items_readable(items: &[JsonValue], depth: u16) -> bool
     ensures value { IsTrue result → IsValue (array (view_values items.now)) }
