@@ -175,6 +175,7 @@ fn write_line<W: Write>(writer: &mut W, value: &JsonValue, layout: Layout) -> io
     util::write_bytes(writer, b"\n")
 }
 
+/// Writes the text of the value in this layout.
 fn write_text<W: Write>(writer: &mut W, value: &JsonValue, layout: Layout) -> io::Result<()>
     ensures { WritesWhole (text layout (view value.now)) result (W.contents writer.old)
         (W.contents writer.new) }
@@ -213,13 +214,17 @@ pub fn drive<R: Read, W: Write, F: Write>(
     }
 }
 
+/// The options that these arguments ask for, if they are right.
 fn options_of(words: &[String]) -> Option<Options>
     ensures { result ≡ asked_options (map string_bytes words.now) }
 {
     let (strict, words) = split_strict(words);
     let layout = layout_of(words)?;
-    // The depth of `parse`, and the most that is allowed, so this is never `None`.
-    let reading = Reading::new(strict, 512)?;
+    let reading = if strict {
+        Reading::STRICT
+    } else {
+        Reading::USUAL
+    };
     Some(Options { reading, layout })
 }
 
@@ -236,6 +241,7 @@ fn split_strict(words: &[String]) -> (bool, &[String])
     }
 }
 
+/// The layout that these arguments ask for, without `--strict`.
 fn layout_of(words: &[String]) -> Option<Layout>
     ensures { result ≡ asked_layout (map string_bytes words.now) }
 {
@@ -248,6 +254,7 @@ fn layout_of(words: &[String]) -> Option<Layout>
     }
 }
 
+/// The number of spaces, of at most five digits and below 65536.
 fn spaces_of(word: &str) -> Option<u16>
     ensures { result ≡ asked_spaces word.now }
 {

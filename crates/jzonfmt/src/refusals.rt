@@ -70,6 +70,7 @@ fn drive(
     Ok(has_failed)
 }
 
+/// Runs `drive` with the first allocation failing, then the second, until none fails.
 fn drive_each(rt: &(impl Eprint + Abort), alloc: Global, row: &Driven) -> Result<(), Fail> {
     let mut refusals = Refusals::new(alloc);
     for _ in 0..RUNS_MAX {
