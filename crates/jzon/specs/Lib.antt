@@ -2,6 +2,7 @@
 pub mod Reading
 pub mod Grammar
 pub mod Spelling
+pub mod TreeCharacters
 pub mod Meaning
 pub mod Fault
 pub mod Laws

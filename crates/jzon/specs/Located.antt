@@ -8,7 +8,11 @@ use Rattle.jzon_base.specs.declared.error.Error.TheVariants.{OutOfMemory}
 use Rattle.jzon.specs.Reading.{Reading}
 use Rattle.jzon.specs.Fault.{Fault, IsFirstFault, error_at, line, column, reported_offset}
 use Rattle.jzon.specs.declared.located.LocatedError.{LocatedError}
-use Rattle.jzon.specs.declared.located.Place.{Place}
+use Rattle.jzon.specs.declared.place.Place.{Place}
+
+-- the place after this many bytes of a text
+abbrev pub place_at : List ℕ → ℕ → Place
+place_at bytes i = record { offset = i; line = line (chars (take i bytes)); column = column (chars (take i bytes)) }
 
 -- i characters of the text are before the place
 pub record IsPlaceOf (bytes : List ℕ) (i : ℕ) (p : Place) : Type 0 where

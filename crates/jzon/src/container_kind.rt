@@ -30,6 +30,7 @@ impl ContainerKind {
         }
     }
 
+    /// A container of this kind without items. It allocates nothing.
     #[inline(always)]
     pub(crate) fn empty(self, alloc: Global) -> JsonValue
         ensures { view result ≡ empty_container self }
@@ -40,6 +41,7 @@ impl ContainerKind {
         }
     }
 
+    /// The bracket that closes it.
     #[inline(always)]
     pub(crate) fn closer(self) -> u8
         ensures { result ≡ closer self }

@@ -12,6 +12,7 @@ mod located;
 mod macros;
 mod numeral;
 mod parser;
+mod place;
 mod primitive;
 mod reading;
 mod stacks;
@@ -30,10 +31,11 @@ pub use jzon_tree::value::JsonValue;
 pub use jzon_tree::value::JsonValue::Null;
 pub use jzon_tree::view::View;
 pub use jzon_tree::{codegen, lent};
-pub use located::{LocatedError, Place};
+pub use located::LocatedError;
 #[doc(hidden)]
 pub use macros::{with_entry, with_item};
 pub use parser::{parse, parse_as, parse_located};
+pub use place::Place;
 pub use reading::Reading;
 
 /// The elements of an array.

@@ -7,19 +7,9 @@ ghost use Rattle.std.specs.Prelude.{◌≡◌, Some};
 ghost use Rattle.jzon_base.specs.ErrorText.{io_kind};
 ghost use Rattle.jzon.specs.Located.{located_text};
 
+use crate::place::Place;
 use jzon_base::error::{Error, io_error};
 use std::{fmt, io};
-
-/// A place in a text: a character, or the end.
-#[derive(Clone, Copy, Debug, PartialEq, Eq)]
-pub struct Place {
-    /// The bytes before it.
-    pub offset: usize,
-    /// The line, counted from 1.
-    pub line: usize,
-    /// The column, counted from 1 in characters.
-    pub column: usize,
-}
 
 /// Why `parse_located` rejects a text, and where. `place` is `None` only for `OutOfMemory`.
 #[derive(Debug, PartialEq, Eq, Drop)]

@@ -1,6 +1,6 @@
 //! How texts are read (docs/RULES.md, "Readings").
 
-ghost use Rattle.std.specs.Prelude.{◌≡◌, ◌≤◌, ◌↔◌, IsTrue, true, false, SomeIff};
+ghost use Rattle.std.specs.Prelude.{◌≡◌, ◌<◌, ◌≤◌, ◌↔◌, IsTrue, true, false, SomeIff};
 ghost use Rattle.jzon_tree.specs.View.{view};
 ghost use Rattle.jzon.specs.Answer.{IsReadable};
 
@@ -49,27 +49,52 @@ impl Reading {
         exact: false,
     };
 
+    /// The strict reading of depth 512 that is exact: it rejects a text of which the value would lose
+    /// a repeated key or a digit.
+    pub const LOSSLESS: Reading = Reading {
+        strict: true,
+        depth: MAX_DEPTH,
+        exact: true,
+    };
+
     /// The reading with these settings, not exact; `None` if `depth` is above 512. At depth 0 a text
     /// may be a primitive or an empty container.
     pub fn new(strict: bool, depth: u16) -> Option<Reading>
         ensures { SomeIff result (depth ≤ 512) (record { strict = strict; depth = depth; exact = false }) }
     {
-        let reading = Reading {
-            strict,
-            ..Reading::USUAL
-        };
-        reading.with_depth(depth)
-    }
-
-    /// This reading with another depth; `None` if `depth` is above 512. A shallow exact reading is
-    /// `Reading::USUAL.with_exact_numbers().with_depth(16)`.
-    pub fn with_depth(self, depth: u16) -> Option<Reading>
-        ensures { SomeIff result (depth ≤ 512) (record self { depth = depth }) }
-    {
         if depth > MAX_DEPTH {
             return None;
         }
-        Some(Reading { depth, ..self })
+        Some(Reading {
+            strict,
+            depth,
+            exact: false,
+        })
+    }
+
+    /// This reading with another depth, 512 if `depth` is above it. A shallow lossless reading is
+    /// `Reading::LOSSLESS.with_depth(16)`.
+    pub fn with_depth(self, depth: u16) -> Reading
+        ensures within { depth ≤ 512 → result ≡ record self { depth = depth } }
+        ensures most { 512 < depth → result ≡ record self { depth = 512 } }
+    {
+        if depth > MAX_DEPTH {
+            return Reading {
+                depth: MAX_DEPTH,
+                ..self
+            };
+        }
+        Reading { depth, ..self }
+    }
+
+    /// This reading, but strict.
+    pub fn strictly(self) -> Reading
+        ensures { result ≡ record self { strict = true } }
+    {
+        Reading {
+            strict: true,
+            ..self
+        }
     }
 
     /// This reading, but it rejects a number that would be read with another value than its digits

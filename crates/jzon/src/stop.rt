@@ -1,20 +1,15 @@
 //! Why the parser stops before the end of a text, and the error that is returned for it
 //! (docs/RULES.md, "Which error is reported").
 
-ghost use Rattle.std.specs.Prelude.{◌≡◌, ◌+◌, ◌≤◌, count_by, drop, chars, length, take};
+ghost use Rattle.std.specs.Prelude.{◌≡◌, drop, chars};
 ghost use Rattle.std.specs.Str.{IsCharBoundary};
-ghost use Rattle.jzon.specs.Fault.{line, column};
 ghost use Rattle.jzon.specs.Private.Machine.{Reports, fault_here};
-ghost use Rattle.jzon.specs.Private.Lines.{is_below};
-ghost use Rattle.jzon.specs.Private.Stops.{IsAtBoundary, place_at, reported_error, stop_place};
+ghost use Rattle.jzon.specs.Private.Stops.{IsAtBoundary, reported_error, stop_place};
 
-use crate::located::{LocatedError, Place};
+use crate::located::LocatedError;
+use crate::place::Place;
 use jzon_base::error::Error;
 use std::alloc::AllocError;
-use std::simd::prelude::*;
-
-/// How many bytes are compared at once.
-const LANES: usize = 16;
 
 /// Why the parser stops. An `Error` is made of it at the end, because a result that may hold one
 /// has 40 bytes or more, which are cleared each time.
@@ -75,10 +70,10 @@ impl Stop {
                     place: None,
                 };
             }
-            Stop::Limit(i) => (Error::ExceededDepthLimit, place_at(source, i)),
-            Stop::Surrogates(i) => (Error::FailedUtf8Parsing, place_at(source, i)),
+            Stop::Limit(i) => (Error::ExceededDepthLimit, Place::at_boundary(source, i)),
+            Stop::Surrogates(i) => (Error::FailedUtf8Parsing, Place::at_boundary(source, i)),
             Stop::At(i) => {
-                let place = place_at(source, i);
+                let place = Place::at_boundary(source, i);
                 let Place { line, column, .. } = place;
                 match source[i..].chars().next() {
                     None => (Error::UnexpectedEndOfJson, place),
@@ -86,12 +81,12 @@ impl Stop {
                 }
             }
             Stop::Duplicate(i) => {
-                let place = place_at(source, i);
+                let place = Place::at_boundary(source, i);
                 let Place { line, column, .. } = place;
                 (Error::DuplicateKey { line, column }, place)
             }
             Stop::Inexact(i) => {
-                let place = place_at(source, i);
+                let place = Place::at_boundary(source, i);
                 let Place { line, column, .. } = place;
                 (Error::InexactNumber { line, column }, place)
             }
@@ -101,74 +96,6 @@ impl Stop {
             place: Some(place),
         }
     }
-}
-
-/// The place at an offset.
-fn place_at(source: &str, offset: usize) -> Place
-    requires { IsCharBoundary source.now offset }
-    ensures { result ≡ place_at source.now offset }
-{
-    Place {
-        offset,
-        line: line_after(&source[..offset]),
-        column: column_after(&source[..offset]),
-    }
-}
-
-/// Counts the bytes of newlines: no other character has such a byte.
-fn line_after(prefix: &str) -> usize
-    ensures { result ≡ line (chars prefix.now) }
-{
-    count_below(prefix.as_bytes(), b'\n', 1) + 1
-}
-
-fn column_after(prefix: &str) -> usize
-    ensures { result ≡ column (chars prefix.now) }
-{
-    match prefix.rfind('\n') {
-        None => characters(prefix) + 1,
-        Some(newline) => characters(&prefix[newline + 1..]) + 1,
-    }
-}
-
-/// How many characters a text has. It counts the bytes that begin one, all but 128 to 191: `^ 127`
-/// makes those 192 to 255.
-fn characters(text: &str) -> usize
-    ensures count { result ≡ length (chars text.now) }
-    ensures within { result ≤ length text.now }
-{
-    count_below(text.as_bytes(), 127, 192)
-}
-
-/// How many bytes `^ turn` are below a bound.
-fn count_below(bytes: &[u8], turn: u8, bound: u8) -> usize
-    ensures count { result ≡ count_by (is_below turn bound) bytes.now }
-    ensures within { result ≤ length bytes.now }
-{
-    let mut count = 0;
-    let mut start = 0;
-    while bytes.len() - start >= LANES {
-        count += count_in_lanes(bytes, start, turn, bound);
-        start += LANES;
-    }
-    count + count_by_bytes(&bytes[start..], turn, bound)
-}
-
-fn count_by_bytes(bytes: &[u8], turn: u8, bound: u8) -> usize
-    ensures { result ≡ count_by (is_below turn bound) bytes.now }
-{
-    bytes.iter().filter(|byte| (**byte ^ turn) < bound).count()
-}
-
-/// The same of the `LANES` bytes at an offset.
-#[inline(always)]
-fn count_in_lanes(bytes: &[u8], start: usize, turn: u8, bound: u8) -> usize
-    requires { start + LANES ≤ length bytes.now }
-    ensures { result ≡ count_by (is_below turn bound) (take LANES (drop start bytes.now)) }
-{
-    let lanes = Simd::<u8, 16>::from_slice(&bytes[start..]);
-    let below = (lanes ^ Simd::splat(turn)).simd_lt(Simd::splat(bound));
-    below.to_bitmask().count_ones() as usize
 }
 
 /// The stop for a text that has no valid continuation at `index`. The text is there only for the

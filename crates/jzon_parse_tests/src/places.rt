@@ -198,6 +198,35 @@ fn counts_many_bytes_at_once(rt: HostRuntime) -> Result<(), Fail> {
     Ok(())
 }
 
+/// A text, an offset in bytes, and the line and the column there, if a character or the end is there.
+const AT: &[(&str, usize, Option<(usize, usize)>)] = rows! {
+    ("", 0, Some((1, 1)))
+    ("", 1, None)
+    ("[1,\n 2]", 5, Some((2, 2)))
+    ("[1,\n 2]", 3, Some((1, 4)))
+    ("[1,\n 2]", 4, Some((2, 1)))
+    ("[1,\n 2]", 7, Some((2, 4)))
+    ("[1,\n 2]", 8, None)
+    ("\r\n\n\u{1f984}é,", 3, Some((3, 1)))
+    ("\r\n\n\u{1f984}é,", 4, None)
+    ("\r\n\n\u{1f984}é,", 6, None)
+    ("\r\n\n\u{1f984}é,", 7, Some((3, 2)))
+    ("\r\n\n\u{1f984}é,", 8, None)
+    ("\r\n\n\u{1f984}é,", 9, Some((3, 3)))
+    ("\r\n\n\u{1f984}é,", 10, Some((3, 4)))
+    ("\r\n\n\u{1f984}é,", 18446744073709551615, None)
+};
+
+#[test]
+fn gives_the_place_of_an_offset(rt: HostRuntime) {
+    for (text, offset, wanted) in AT {
+        let found = Place::at(text, *offset);
+        expect(&rt, text, found.is_none_or(|place| place.offset == *offset));
+        let found = found.map(|place| (place.line, place.column));
+        expect_eq(&rt, text, found, *wanted);
+    }
+}
+
 /// For `?` in a `main`.
 fn for_main(alloc: Global, text: &str) -> io::Result<JsonValue> {
     let reading = &Reading::USUAL;

@@ -25,14 +25,20 @@ fn has_at_most_512_open(rt: HostRuntime) {
         let found = reading.map(|reading| (reading.strict(), reading.depth()));
         let is_right = found.is_none_or(|found| found == (*strict, *depth));
         expect(&rt, "its strictness and depth", is_right);
-        let exact = Reading::STRICT.with_exact_numbers().with_depth(*depth);
-        let found = exact.map(|exact| (exact.strict(), exact.depth(), exact.exact_numbers()));
-        let wanted = is_some.then_some((true, *depth, true));
-        expect_eq(&rt, "another depth", found, wanted);
+        let exact = Reading::USUAL.with_exact_numbers().with_depth(*depth);
+        let found = (exact.strict(), exact.depth(), exact.exact_numbers());
+        let most = if *is_some { *depth } else { 512 };
+        expect_eq(&rt, "another depth", found, (false, most, true));
     }
-    for (reading, strict) in [(Reading::USUAL, false), (Reading::STRICT, true)] {
-        let found = (reading.strict(), reading.depth());
-        expect_eq(&rt, "a constant", found, (strict, 512));
+    let constants = [
+        (Reading::USUAL, false, false),
+        (Reading::STRICT, true, false),
+        (Reading::LOSSLESS, true, true),
+        (Reading::USUAL.strictly(), true, false),
+    ];
+    for (reading, strict, exact) in constants {
+        let found = (reading.strict(), reading.depth(), reading.exact_numbers());
+        expect_eq(&rt, "a constant", found, (strict, 512, exact));
     }
 }
 

@@ -15,7 +15,7 @@ use Rattle.jzon.specs.Located.{IsErrorAt}
 use Rattle.jzon.specs.Meaning.{meaning}
 use Rattle.jzon.specs.Reading.{Reading}
 use Rattle.jzon.specs.declared.located.LocatedError.{LocatedError}
-use Rattle.jzon.specs.declared.located.Place.{Place}
+use Rattle.jzon.specs.declared.place.Place.{Place}
 use Rattle.jzon_tools.specs.DecodeFound.{FoundIs}
 use Rattle.jzon_tools.specs.DecodeExpected.{Refuses}
 use Rattle.jzon_tools.specs.Escaped.{escaped}

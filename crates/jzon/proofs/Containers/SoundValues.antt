@@ -23,7 +23,8 @@ use Rattle.jzon.specs.Private.Machine.{key_mark, bad_at, move_before, move_befor
 use Rattle.jzon.specs.Private.Machine.{move_empty_array, move_empty_object}
 use Rattle.jzon.proofs.Texts.ClassesOfCharacters.{class-says}
 use Rattle.jzon.proofs.Texts.Runs.{On, Goes}
-use Rattle.jzon.proofs.Texts.TreeCharacters.{key_chars, node_chars, elements_chars, members_chars, spells}
+use Rattle.jzon.specs.TreeCharacters.{key_chars, node_chars, elements_chars, members_chars}
+use Rattle.jzon.proofs.Texts.TreeCharacters.{spells}
 use Rattle.jzon.proofs.Containers.CompleteValues.{with_prefix, with_prefix-append, closed-values}
 use Rattle.jzon.proofs.Numbers.SoundNumbers.{InNumeral, number_ends, number_on, digit_sound, minus_sound}
 use Rattle.jzon.proofs.Strings.SoundStrings.{Left as string_left, string_on}

@@ -10,6 +10,10 @@ use Rattle.jzon.specs.Private.Machine.{Frames, State, numeral, go, move, refused
 use Rattle.jzon.proofs.Texts.ClassesOfCharacters.{digits-class}
 use Rattle.jzon.proofs.Numbers.NumberLimits.{AreUnmarked, IsFirstMarked, next_clear, up_to_next, length-onto}
 
+pub AreDigits-append : (xs ys : List ℕ) → AreDigits xs → AreDigits ys → AreDigits (xs ++ ys)
+AreDigits-append [] ys h k = k
+AreDigits-append (x ∷ xs) ys h k = (h.0, AreDigits-append xs ys h.1 k)
+
 -- ---- digits in a state that collects them
 
 -- Each digit is put before those that the state has, with the breach of the digits up to it.

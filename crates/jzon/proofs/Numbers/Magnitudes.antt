@@ -27,13 +27,11 @@ use Rattle.jzon.proofs.Numbers.NumeralOutcomes.{NextFails, ReadsWhole, reads_zer
 use Rattle.jzon.proofs.Numbers.NumeralOutcomes.{whole_to_letter, whole_to_end, fraction_to_letter, fraction_to_end}
 use Rattle.jzon.proofs.Numbers.NumeralOutcomes.{stop_pointed, first_kept}
 use Rattle.jzon.proofs.Texts.StepsByByte.{digit_is_ascii, next_is}
+use Rattle.jzon.proofs.Texts.ClassesOfCharacters.{digit_below}
 use Rattle.jzon.proofs.Numbers.NumeralOffsets.{next_fails, AreDigitsAt, digits_stand, some_digits, no_digits}
 use Rattle.jzon.proofs.Numbers.NumeralOffsets.{reports_lost}
 
 -- ---- whole digits
-
-digit_below : (d : ℕ) → is_ascii_digit d ≡ true → d < 58
-digit_below d h = grind (arith, nat_tests)
 
 -- all digits that are there, of which d is the first
 all_digits : (r : Reading) (d : ℕ) (ws cs rest : List ℕ) → (d == 48) ≡ false → IsTrue (is_ascii_digit d) → AreDigits ws

@@ -17,7 +17,7 @@ use Rattle.jzon.specs.Private.Machine.{Frames, numeral, number_value, exponent_o
 use Rattle.jzon.specs.Private.Machine.{move_after_whole, move_numeral, last_numeral, meant}
 use Rattle.jzon.proofs.Texts.ClassesOfCharacters.{class-says}
 use Rattle.jzon.proofs.Texts.Runs.{On, Goes}
-use Rattle.jzon.proofs.Texts.TreeCharacters.{fraction_chars, sign_chars, exponent_chars, numeral_chars}
+use Rattle.jzon.specs.TreeCharacters.{fraction_chars, sign_chars, exponent_chars, numeral_chars}
 
 -- Beh V t: the text t is what may follow the value V.
 module _ (r : Reading) (v : Value) (fs : Frames) (Beh : Value → List ℕ → Type 0) where

@@ -3,8 +3,8 @@
 use Rattle.jzon_base.proofs.Common.{◌≡◌, ◌∙◌, ℕ, zero, suc, ℤ, pos, ◌+ℤ◌, ◌-ℤ◌, ◌+◌, ◌-◌, ◌*◌, ◌^◌, ◌≤◌, ◌<◌, List, []}
 use Rattle.jzon_base.proofs.Common.{◌∷◌, ◌++◌, length, take, drop, get_or, Bool, true, false, not, ◌&&◌, ◌==◌, Option}
 use Rattle.jzon_base.proofs.Common.{Some, None, refl, sym, ap, subst, arith, ints, clamps, inl, inr, cases_lt, cases_eq, fold}
-use Rattle.jzon_base.proofs.Common.{fold-append, take-append-drop, length-append, length-drop, pow-suc, pow-add}
-use Rattle.jzon_base.proofs.Common.{is_ascii_digit, nat_tests, and_parts, get_or-drop, get_or_append_left, if◌then◌else◌}
+use Rattle.jzon_base.proofs.Common.{fold-append, take-append-drop, length-append, length-drop, pow-add}
+use Rattle.jzon_base.proofs.Common.{and_parts, get_or-drop, get_or_append_left, if◌then◌else◌}
 use Rattle.std.proofs.lemmas.List.{get_or-append-add}
 use Rattle.jzon_base.specs.Digits.{add_digit, digits_number, kept_len, kept, dropped, kept_fraction, own_power}
 use Rattle.jzon_base.specs.LostDigits.{HoldsOfNone, loses_last, is_out_of_range}
@@ -23,11 +23,10 @@ use Rattle.jzon.proofs.Numbers.NumberLimits.{exponent_keeps, whole_few, fraction
 use Rattle.jzon.proofs.Numbers.NumeralOutcomes.{first_kept}
 use Rattle.jzon.proofs.ReadBack.UnmarkedCells.{HaveNoMarks, unmarked, plain_rest, sign_rest, key_first}
 use Rattle.jzon.proofs.ReadBack.MeaningHeld.{node_held}
+use Rattle.jzon.proofs.Texts.ClassesOfCharacters.{digit_below}
+use Rattle.jzon.proofs.ReadBack.TrailingZeros.{ten_more}
 
 -- ---- the value of digits of which only zeros are dropped
-
-tenfold : (v n : ℕ) → (v * 10 + 0) * 10 ^ n ≡ v * 10 ^ suc n
-tenfold v n = rw (pow-suc 10 n) (omega arith)
 
 zeros_after : (v : ℕ) (xs : List ℕ) → ((i : ℕ) → i < length xs → get_or xs i 0 ≡ 48)
     → fold add_digit v xs ≡ v * 10 ^ length xs
@@ -35,7 +34,7 @@ zeros_after v [] h = omega arith
 zeros_after v (c ∷ cs) h =
     let first : c ≡ 48 = h 0 (omega arith) in
     ap (λ d. fold add_digit (add_digit v d) cs) first
-    ∙ zeros_after (v * 10 + 0) cs (λ i within. h (suc i) (omega arith)) ∙ tenfold v (length cs)
+    ∙ zeros_after (v * 10 + 0) cs (λ i within. h (suc i) (omega arith)) ∙ ten_more v (length cs)
 
 pub value_kept : (ds : List ℕ) → HoldsOfNone loses_last ds → digits_number ds ≡ digits_number (kept ds) * 10 ^ (length ds - kept_len ds)
 value_kept ds none =
@@ -104,9 +103,6 @@ all_clear : (breach : List ℕ → Option Breach) (ds : List ℕ) (k : List Cell
     → HaveNoMarks (digits_cells breach [] ds k) → AreUnmarked breach ds × HaveNoMarks k
 all_clear breach ds k h =
     let clear = digits_clear breach [] ds k h in (λ i within. clear.0 i (omega arith) within, clear.1)
-
-digit_below : (d : ℕ) → is_ascii_digit d ≡ true → d < 58
-digit_below d h = grind (arith, nat_tests)
 
 pub first_below : (d : ℕ) (es : List ℕ) → IsWhole (d ∷ es) → d < 58
 first_below d [] ok = digit_below d ok

@@ -3,7 +3,7 @@
 use Rattle.jzon_base.proofs.Common.{◌≡◌, ◌≢◌, ◌⊎◌, ◌∙◌, ℕ, zero, suc, ℤ, pos, negsuc, ◌+ℤ◌, ◌-ℤ◌, ◌+◌, ◌-◌, ◌*◌, ◌^◌, ◌≤◌, ◌<◌}
 use Rattle.jzon_base.proofs.Common.{List, [], ◌∷◌, ◌++◌, length, take, drop, get_or, Bool, true, false, ◌&&◌, ◌==◌, Option, Some, None}
 use Rattle.jzon_base.proofs.Common.{refl, sym, ap, subst, arith, ints, clamps, inl, inr, cases_lt, cases_eq, fold, if◌then◌else◌}
-use Rattle.jzon_base.proofs.Common.{fold-append, take-append-drop, length-append, length-drop, pow-suc, pow-add}
+use Rattle.jzon_base.proofs.Common.{fold-append, take-append-drop, length-append, length-drop, pow-add}
 use Rattle.jzon_base.proofs.Common.{is_ascii_digit, nat_tests, and_parts, get_or_append_left, mul-le-mul_right, one-le-pow}
 use Rattle.jzon_base.proofs.Common.{pow-le-pow_right, true≢false, FitsSigned, w16, slice_get, IsTrue}
 use Rattle.std.proofs.lemmas.List.{get_or-append-add}
@@ -21,9 +21,12 @@ use Rattle.jzon.specs.Exact.{AreEqualDecimals, IsExact, DifferByZeros, IsInexact
 use Rattle.jzon.proofs.Texts.Cells.{marks_of}
 use Rattle.jzon.proofs.Numbers.NumberLimits.{AreUnmarked, up_to_next, length-onto, whole_mark, fraction_mark, whole_few}
 use Rattle.jzon.proofs.Numbers.NumberLimits.{fraction_few}
+use Rattle.jzon.proofs.Numbers.DigitRuns.{AreDigits-append}
 use Rattle.jzon.proofs.ReadBack.PrintedParts.{on_the_way}
 use Rattle.jzon.proofs.ReadBack.ExactNumbers.{value_kept, AreClearFrom, clear_from_next, digits_kept, first_below}
+use Rattle.jzon.proofs.ReadBack.TrailingZeros.{tenfold}
 use Rattle.jzon.proofs.ReadBack.UnmarkedCells.{no_mark}
+use Rattle.std.proofs.Math.Nat.{lt_of_mul-lt-mul_right}
 
 -- ---- multiples of a power of ten
 
@@ -31,27 +34,13 @@ use Rattle.jzon.proofs.ReadBack.UnmarkedCells.{no_mark}
 less_times : (a b w : ℕ) → a < b → a * w + w ≤ b * w
 less_times a b w h = let more = mul-le-mul_right {m = a + 1} {n = b} w (omega (arith, h)) in omega (arith, more)
 
-cancel : (a b w : ℕ) → 1 ≤ w → a * w ≡ b * w → a ≡ b
-cancel a b w some same = elim (cases_lt a b) [
-  | inl less ↦ absurd (omega (arith, less_times a b w less, some, same))
-  | inr more ↦ elim (cases_lt b a) [
-    | inl less ↦ absurd (omega (arith, less_times b a w less, some, same))
-    | inr equal ↦ omega (arith, more, equal)
-  ]
-]
-
 -- a multiple of w from b times w on, and below the next one
 at_multiple : (a b w : ℕ) → b * w ≤ a * w → a * w < b * w + w → a ≡ b
-at_multiple a b w low high = elim (cases_lt a b) [
-  | inl less ↦ absurd (omega (arith, less_times a b w less, low, high))
-  | inr more ↦ elim (cases_lt b a) [
-    | inl less ↦ absurd (omega (arith, less_times b a w less, low, high))
-    | inr equal ↦ omega (arith, more, equal)
-  ]
-]
-
-tenfold : (v n : ℕ) → v * 10 ^ suc n ≡ v * 10 ^ n * 10
-tenfold v n = rw (pow-suc 10 n) (omega arith)
+at_multiple a b w low high = omega (
+  arith,
+  lt_of_mul-lt-mul_right w {m = a} {n = b + 1} (omega (arith, high)),
+  lt_of_mul-lt-mul_right w {m = b} {n = a + 1} (omega (arith, low, high)),
+)
 
 -- at least as large
 times_power : (v n : ℕ) → v ≤ v * 10 ^ n
@@ -89,10 +78,6 @@ digits-drop zero [] ok = tt
 digits-drop zero (d ∷ ds) ok = ok
 digits-drop (suc n) [] ok = tt
 digits-drop (suc n) (d ∷ ds) ok = digits-drop n ds ok.1
-
-digits-append : (xs ys : List ℕ) → AreDigits xs → AreDigits ys → AreDigits (xs ++ ys)
-digits-append [] ys h k = k
-digits-append (x ∷ xs) ys h k = (h.0, digits-append xs ys h.1 k)
 
 whole_digits : (ws : List ℕ) → IsWhole ws → AreDigits ws
 whole_digits [] ok = absurd ok
@@ -237,7 +222,8 @@ module _ (ws fs : List ℕ) (s : Sign) (xs : List ℕ) (none : HoldsOfNone loses
       (length-append ws fs) (kept_len_is_longest ds).within at) in
       let left : m * 10 ^ (j + d) ≡ m * (10 ^ j * 10 ^ d) = ap (λ w. m * w) (pow-add 10 j d) in
       let right : digits_number ds * 10 ^ n ≡ mantissa * 10 ^ d * 10 ^ n = ap (λ v. v * 10 ^ n) (value_kept ds none) in
-      cancel (m * 10 ^ j) (mantissa * 10 ^ n) (10 ^ d) (one-le-pow d 10 (omega arith)) (omega (arith, all, left, right))
+      at_multiple (m * 10 ^ j) (mantissa * 10 ^ n) (10 ^ d) (omega (arith, all, left, right))
+      (omega (arith, all, left, right, one-le-pow d 10 (omega arith)))
 
   exponent_inexact : Inexact ws fs (signed_exponent s (digits_number xs))
   exponent_inexact positive m e fits range exact =
@@ -347,7 +333,7 @@ module _ (r : Reading) (d : ℕ) (es : List ℕ) (ok : IsWhole (d ∷ es)) (fs :
       ]
 
   all_digits : AreDigits (ws ++ fs)
-  all_digits = digits-append ws fs (whole_digits ws ok) fs_ok
+  all_digits = AreDigits-append ws fs (whole_digits ws ok) fs_ok
 
   fraction_first : (x : Option Exponent) → AreClearFrom (whole_breach r) ws 1
       → HasInexact (fraction_breach r ws) fs ⊎ (AreUnmarked (fraction_breach r ws) fs × FirstInexact (exponent_cells r ws fs x []))

@@ -27,13 +27,13 @@ use Rattle.std.proofs.Math.Seq.{get_or-append_seam}
 
 -- ---- powers of ten
 
-ten_more : (v n : ℕ) → (v * 10 + 0) * 10 ^ n ≡ v * 10 ^ suc n
+pub ten_more : (v n : ℕ) → (v * 10 + 0) * 10 ^ n ≡ v * 10 ^ suc n
 ten_more v n = rw (pow-suc 10 n) (omega arith)
 
 times_one : (m : ℕ) → m * 10 ^ 0 ≡ m
 times_one m = omega arith
 
-tenfold : (m n : ℕ) → m * 10 ^ suc n ≡ m * 10 ^ n * 10
+pub tenfold : (m n : ℕ) → m * 10 ^ suc n ≡ m * 10 ^ n * 10
 tenfold m n = rw (pow-suc 10 n) (omega arith)
 
 -- ---- digits and zeros

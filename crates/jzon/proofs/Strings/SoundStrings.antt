@@ -14,7 +14,7 @@ use Rattle.jzon.specs.Private.Machine.{Role, StringState, between, after_backsla
 use Rattle.jzon.specs.Private.Machine.{string, go, bad, closed_string, after_unit, move_pair, add_hex, move_code}
 use Rattle.jzon.specs.Private.Machine.{move_second_code}
 use Rattle.jzon.proofs.Texts.Runs.{On, Goes}
-use Rattle.jzon.proofs.Texts.TreeCharacters.{item_chars, items_chars}
+use Rattle.jzon.specs.TreeCharacters.{item_chars, items_chars}
 use Rattle.jzon.proofs.Strings.CompleteStrings.{bytes-more, bytes-none, bytes-one}
 
 -- Closed bs u: the text u is what may follow a string of these bytes.

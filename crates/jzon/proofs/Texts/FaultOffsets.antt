@@ -49,11 +49,6 @@ reports_inexact bs i o u at q =
     subst (Reports bs (Inexact i)) (sym q)
     (at, ap (λ f. InexactNumber (line f) (column f)) (sym prefix), sym whole)
 
--- the offset of what is reported is a boundary
-pub boundary_of : (bs : List ℕ) (e : Stop) (o : Outcome) → Reports bs e o → IsAtBoundary bs e
-boundary_of bs e (meant v) h = absurd h
-boundary_of bs e (refused f rest) h = h.0
-
 -- the error, and the number of characters before its offset, are those of this outcome of a text
 abbrev Tells : List ℕ → ℕ → Error → Outcome → Type 0
 Tells t n e (meant v) = ⊥

@@ -3,10 +3,10 @@ use Rattle.jzon_base.proofs.Common.{◌≡◌, inl, inr, ℕ, ◌-◌, List, len
 use Rattle.jzon_base.proofs.Common.{chars, IsUtf8, IsCharBoundary}
 use Rattle.jzon.specs.Reading.{Reading}
 use Rattle.jzon.specs.Fault.{Fault, line, column}
-use Rattle.jzon.specs.Located.{IsPlaceOf, IsLocated}
+use Rattle.jzon.specs.Located.{IsPlaceOf, IsLocated, place_at}
 use Rattle.jzon.specs.Private.Machine.{no_frames, before, Outcome, meant, refused, outcome, from, Reports}
 use Rattle.jzon.specs.Private.Machine.{ReportsUnlessMemory}
-use Rattle.jzon.specs.Private.Stops.{stop_place, place_at, reported_error}
+use Rattle.jzon.specs.Private.Stops.{stop_place, reported_error}
 use Rattle.jzon.specs.declared.stop.Stop.{Stop}
 use Rattle.jzon.specs.declared.stop.Stop.TheVariants.{Memory, Limit, Surrogates, At, Duplicate, Inexact}
 use Rattle.jzon.specs.declared.located.LocatedError.{LocatedError}

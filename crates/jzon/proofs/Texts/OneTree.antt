@@ -17,9 +17,10 @@ use Rattle.jzon.specs.Private.Classes.{opens_array, closes_array, opens_object, 
 use Rattle.jzon.specs.Private.Classes.{begins_null, begins_true, begins_false, class_of}
 use Rattle.jzon.proofs.Texts.ClassesOfCharacters.{whitespace-class, digits-class, letter_e-class, class-char, char_of}
 use Rattle.jzon.proofs.Strings.StringCharacters.{plain_parts, simple_not_u}
-use Rattle.jzon.proofs.Texts.TreeCharacters.{fraction_chars, sign_chars, exponent_chars, magnitude_chars, numeral_chars}
-use Rattle.jzon.proofs.Texts.TreeCharacters.{items_chars, key_chars, node_chars, elements_chars, members_chars}
-use Rattle.jzon.proofs.Texts.TreeCharacters.{document_chars, spells}
+use Rattle.jzon.specs.TreeCharacters.{fraction_chars, sign_chars, exponent_chars, magnitude_chars, numeral_chars}
+use Rattle.jzon.specs.TreeCharacters.{items_chars, key_chars, node_chars, elements_chars, members_chars}
+use Rattle.jzon.specs.TreeCharacters.{document_chars}
+use Rattle.jzon.proofs.Texts.TreeCharacters.{spells}
 
 module _ (r : Reading) where
   abbrev class : ℕ → Class

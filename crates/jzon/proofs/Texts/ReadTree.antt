@@ -13,7 +13,8 @@ use Rattle.jzon.specs.Fault.{Spells, Parses}
 use Rattle.jzon.specs.Private.Machine.{no_frames, before, Outcome, meant, refused, outcome}
 use Rattle.jzon.proofs.Strings.StringCharacters.{are_hex, hex-true}
 use Rattle.jzon.proofs.WorkedRows.Samples.{is_numeral, is_numeral-true, parts-true}
-use Rattle.jzon.proofs.Texts.TreeCharacters.{document_chars, spells}
+use Rattle.jzon.specs.TreeCharacters.{document_chars}
+use Rattle.jzon.proofs.Texts.TreeCharacters.{spells}
 use Rattle.jzon.proofs.Texts.OneTree.{same_tree}
 use Rattle.jzon.proofs.Texts.Verdict.{Verdict, answers}
 

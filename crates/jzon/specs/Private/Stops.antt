@@ -6,8 +6,9 @@ use Rattle.jzon_base.specs.declared.error.Error.TheVariants.{OutOfMemory, Unexpe
 use Rattle.jzon_base.specs.declared.error.Error.TheVariants.{ExceededDepthLimit, FailedUtf8Parsing, DuplicateKey}
 use Rattle.jzon_base.specs.declared.error.Error.TheVariants.{InexactNumber}
 use Rattle.jzon.specs.Fault.{line, column}
+use Rattle.jzon.specs.Located.{place_at}
 use Rattle.jzon.specs.declared.stop.Stop.{Stop}
-use Rattle.jzon.specs.declared.located.Place.{Place}
+use Rattle.jzon.specs.declared.place.Place.{Place}
 use Rattle.jzon.specs.declared.stop.Stop.TheVariants.{Memory, Limit, Surrogates, At, Duplicate, Inexact}
 
 -- the offset of a stop, if it has one, is that of a character or of the end of the text
@@ -27,10 +28,6 @@ stop_offset (Surrogates i) = i
 stop_offset (At i) = i
 stop_offset (Duplicate i) = i
 stop_offset (Inexact i) = i
-
--- the place of this offset
-abbrev pub place_at : List ℕ → ℕ → Place
-place_at bytes i = record { offset = i; line = line (chars (take i bytes)); column = column (chars (take i bytes)) }
 
 -- the place that a stop reports: none if memory ran out
 abbrev pub stop_place : List ℕ → Stop → Option Place

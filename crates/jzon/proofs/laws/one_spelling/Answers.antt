@@ -1,5 +1,5 @@
 use Rattle.jzon_base.proofs.Common.{◌≡◌, ◌∙◌, ◌<◌, ℕ, zero, suc, List, [], ◌∷◌, length, take, Option, Some, refl}
-use Rattle.jzon_base.proofs.Common.{sym, arith, nat_tests, true, false, is_ascii_digit, IsTrue}
+use Rattle.jzon_base.proofs.Common.{sym, arith, nat_tests, false, is_ascii_digit, IsTrue}
 use Rattle.jzon_base.specs.Digits.{kept_len}
 use Rattle.jzon_base.proofs.Numbers.DigitPrefixes.{kept_all}
 use Rattle.jzon_base.specs.LostDigits.{loses_last}
@@ -8,6 +8,7 @@ use Rattle.jzon.specs.Laws.{mark_at}
 use Rattle.jzon.specs.Spelling.{Breach, Cell, onto, drops_too_many, whole_breach, fraction_breach, digits_cells, whole_cells}
 use Rattle.jzon.specs.Spelling.{fraction_cells}
 use Rattle.jzon.proofs.Texts.TreeCharacters.{spells}
+use Rattle.jzon.proofs.Texts.ClassesOfCharacters.{digit_below}
 use Rattle.jzon.proofs.laws.one_spelling.Goals as goal
 
 pub returns-clause-text : goal.returns-clause-text
@@ -23,9 +24,6 @@ marked breach prefix (d ∷ ds) k (suc i) lt = marked breach (d ∷ prefix) ds k
 one_digit : (d : ℕ) → drops_too_many (d ∷ []) ≡ false
 unfolding drops_too_many
 one_digit d = grind (arith, nat_tests)
-
-digit_below : (d : ℕ) → is_ascii_digit d ≡ true → d < 58
-digit_below d h = grind (arith, nat_tests)
 
 one_kept : (d : ℕ) → IsTrue (is_ascii_digit d) → loses_last (d ∷ []) ≡ false
 unfolding loses_last

@@ -1,10 +1,6 @@
-use Rattle.jzon_base.proofs.Common.{Result, Ok, Err, OnOk, ap}
+use Rattle.jzon_base.proofs.Common.{ap}
 use Rattle.jzon.proofs.Containers.StackParts.{IsLaidOut-as_many, IsLaidOut-values_cut}
 use Rattle.jzon.proofs.stacks.Stacks.end_object.Goals as goal
-
-on_ok : {T E P : Type 0} (r : Result T E) → P → OnOk r P
-on_ok (Ok x) p = p
-on_ok (Err e) p = tt
 
 pub invariant_of-self : goal.invariant_of-self
 invariant_of-self c =

@@ -1,7 +1,7 @@
 use Rattle.jzon_base.proofs.Common.{◌∙◌, ap, count_by}
 use Rattle.jzon.specs.Private.Lines.{is_below}
 use Rattle.jzon.proofs.Texts.ByteCounts.{characters_of}
-use Rattle.jzon.proofs.stop.characters.Goals as goal
+use Rattle.jzon.proofs.place.characters.Goals as goal
 
 pub returns-clause-count : goal.returns-clause-count
 returns-clause-count c =

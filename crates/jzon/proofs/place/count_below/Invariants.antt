@@ -1,6 +1,6 @@
 use Rattle.jzon_base.proofs.Common.{◌≡◌, ◌-◌, ◌≤◌, length, take, count_by}
 use Rattle.jzon.specs.Private.Lines.{is_below}
-use Rattle.jzon.proofs.stop.count_below.Given as goal
+use Rattle.jzon.proofs.place.count_below.Given as goal
 
 abbrev pub invariant-loop-start : goal.invariant-loop-start
 invariant-loop-start l =

@@ -2,7 +2,7 @@ use Rattle.jzon_base.proofs.Common.{◌+◌, ◌∙◌, ap, arith, cond, count_b
 use Rattle.std.proofs.lemmas.List.Sums.{count_by-le-length, sum_by-take-le}
 use Rattle.jzon.specs.Private.Lines.{is_below}
 use Rattle.jzon.proofs.Texts.ByteCounts.{more, rest}
-use Rattle.jzon.proofs.stop.count_below.Goals as goal
+use Rattle.jzon.proofs.place.count_below.Goals as goal
 
 pub loop-start-preserved : goal.loop-start-preserved
 loop-start-preserved c =

@@ -1,6 +1,6 @@
 use Rattle.jzon_base.proofs.Common.{◌∙◌, sym, ap, ◌+◌, length, chars}
 use Rattle.jzon.proofs.Texts.Columns.{column_of_one_line, column_of_last_line}
-use Rattle.jzon.proofs.stop.column_after.Goals as goal
+use Rattle.jzon.proofs.place.column_after.Goals as goal
 
 pub returns-in-None : goal.returns-in-None
 returns-in-None c =

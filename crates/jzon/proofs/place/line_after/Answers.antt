@@ -1,7 +1,7 @@
 use Rattle.jzon_base.proofs.Common.{◌∙◌, ap, arith, count_by}
 use Rattle.jzon.specs.Private.Lines.{is_below}
 use Rattle.jzon.proofs.Texts.ByteCounts.{newlines_of}
-use Rattle.jzon.proofs.stop.line_after.Goals as goal
+use Rattle.jzon.proofs.place.line_after.Goals as goal
 
 pub returns : goal.returns
 returns c =
