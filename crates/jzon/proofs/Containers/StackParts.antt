@@ -3,7 +3,7 @@ use Rattle.jzon_base.proofs.Common.{◌≡◌, ℕ, ◌≤◌, true, false, List
 use Rattle.jzon_base.proofs.Common.{length, take, drop, vec_len, Option, None, Some, option_map, IfSome, Vec, Global}
 use Rattle.jzon_base.proofs.Common.{length-append, refl, sym, ap, ◌∙◌, subst, arith, take-take, take_all}
 use Rattle.jzon_base.proofs.Common.{drop_all, length-take, length-drop, false≢true, take-append-le, drop-append-le}
-use Rattle.jzon_base.proofs.Common.{position, zip, is_some, bytes_eq}
+use Rattle.jzon_base.proofs.Common.{position, zip, is_some, bytes_eq, Result, Ok, Err, IfOk}
 use Rattle.std.specs.Prelude.{reverse, MatchOption}
 use Rattle.std.proofs.lemmas.List.{reverse-append}
 use Rattle.std.proofs.lemmas.Option.{IfSome_then}
@@ -23,6 +23,14 @@ use Rattle.jzon.specs.declared.container_kind.ContainerKind.{ContainerKind}
 use Rattle.jzon.specs.declared.container_kind.ContainerKind.TheVariants.{Array, Object}
 use Rattle.jzon.specs.declared.stacks.Frame.{Frame}
 use Rattle.jzon.specs.declared.stacks.Stacks.TheInside.{Inside}
+
+pub if_ok : {T E : Type 0} (P Q : T → Type 0) (r : Result T E) → ((x : T) → P x → Q x) → IfOk r P → IfOk r Q
+if_ok P Q (Ok x) f h = f x h
+if_ok P Q (Err e) f h = tt
+
+pub if_none : (P : KnownKeys → Type 0) (a : Option KnownKeys) → is_some a ≡ false → IfSome a P
+if_none P None e = tt
+if_none P (Some l) e = absurd (false≢true (sym e))
 
 -- ---- the innermost container changes
 

@@ -1,10 +1,6 @@
 use Rattle.jzon_base.proofs.Common.{◌∙◌, Result, Ok, Err, IfOk}
-use Rattle.jzon.proofs.Containers.StackParts.{IsLaidOut-values_taken, values_here}
+use Rattle.jzon.proofs.Containers.StackParts.{if_ok, IsLaidOut-values_taken, values_here}
 use Rattle.jzon.proofs.stacks.Stacks.finish_array.Goals as goal
-
-if_ok : {T E : Type 0} (P Q : T → Type 0) (r : Result T E) → ((x : T) → P x → Q x) → IfOk r P → IfOk r Q
-if_ok P Q (Ok x) f h = f x h
-if_ok P Q (Err e) f h = tt
 
 pub invariant_of-self : goal.invariant_of-self
 invariant_of-self c = IsLaidOut-values_taken c.self.inside c.args.self.now c.self.invariant c.self.view_is c.requires

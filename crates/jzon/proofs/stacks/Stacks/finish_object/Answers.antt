@@ -14,16 +14,8 @@ use Rattle.jzon.specs.Private.OpenContainers.{OpenContainers, HasAllValues, whol
 use Rattle.jzon.specs.Private.Stacks.{containers_of, IsLaidOut}
 use Rattle.jzon.specs.declared.container_kind.ContainerKind.TheVariants as kinds
 use Rattle.jzon.specs.declared.stacks.Stacks.TheInside.{Inside}
-use Rattle.jzon.proofs.Containers.StackParts.{IsLaidOut-keys_left, IsLaidOut-taken, IsLaidOut-values_taken, keys_here, values_here}
+use Rattle.jzon.proofs.Containers.StackParts.{if_none, if_ok, IsLaidOut-keys_left, IsLaidOut-taken, IsLaidOut-values_taken, keys_here, values_here}
 use Rattle.jzon.proofs.stacks.Stacks.finish_object.Goals as goal
-
-if_ok : {T E : Type 0} (P Q : T → Type 0) (r : Result T E) → ((x : T) → P x → Q x) → IfOk r P → IfOk r Q
-if_ok P Q (Ok x) f h = f x h
-if_ok P Q (Err e) f h = tt
-
-if_none : (P : KnownKeys → Type 0) (a : Option KnownKeys) → is_some a ≡ false → IfSome a P
-if_none P None e = tt
-if_none P (Some l) e = absurd (false≢true (sym e))
 
 -- the keys and values that were taken are those of the outermost container
 module _ (s : Inside) (o : OpenContainers) (h : IsLaidOut s) (seen : containers_of s ≡ o) (none : o.around ≡ [])

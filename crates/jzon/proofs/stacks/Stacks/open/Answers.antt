@@ -3,13 +3,9 @@ use Rattle.jzon_base.proofs.Common.{Option, None, Some, IfSome, vec_len}
 use Rattle.jzon_base.specs.Private.KnownKeys.{Knows}
 use Rattle.jzon_base.specs.declared.keys.known.KnownKeys.{KnownKeys}
 use Rattle.jzon.specs.Private.OpenContainers.{OpenContainers, AwaitsValue}
-use Rattle.jzon.proofs.Containers.StackParts.{IsLaidOut-opened}
+use Rattle.jzon.proofs.Containers.StackParts.{if_none, IsLaidOut-opened}
 use Rattle.jzon.proofs.stacks.Stacks.open.Goals.{then-is_some+in_ok-open_known, else-is_some}
 use Rattle.jzon.proofs.stacks.Stacks.open.Goals as goal
-
-if_none : (P : KnownKeys → Type 0) (a : Option KnownKeys) → is_some a ≡ false → IfSome a P
-if_none P None e = tt
-if_none P (Some l) e = absurd (false≢true (sym e))
 
 pub invariant_of-self-2 : goal.invariant_of-self-2
 invariant_of-self-2 c = IsLaidOut-opened c.self.inside _ c.self.invariant (elim c.if-is_some.branch [
