@@ -2,7 +2,8 @@
 use Rattle.std.proofs.Common.{◌≡◌, ◌++◌, ℕ, List, Bor, codes, map, refl, string_bytes}
 use Rattle.std.specs.declared.alloc.Global.{Global}
 use Rattle.std.specs.declared.string.String.{String}
-use Rattle.jzon_tools.specs.DecodeText.{decode_error_text, expected_text, found_text, names_text, place_text, shown_text}
+use Rattle.jzon_tools.specs.DecodeText.{decode_error_text, expected_text, found_text, names_text, place_text}
+use Rattle.jzon_tools.specs.Shown.{pointer_shown}
 use Rattle.jzon_tools.specs.declared.decode.error.DecodeError.{DecodeError}
 use Rattle.jzon_tools.specs.declared.decode.error.DecodeError.TheVariants.{Wrong, Missing, Unknown}
 use Rattle.jzon_tools.specs.declared.decode.error.Expected.{Expected}
@@ -15,11 +16,11 @@ pub wrong-text : (x : DecodeError) (p : String Global) (e : Expected) (f : Found
 wrong-text x p e f s at is = rw (is, at) refl
 
 pub missing-text : (x : DecodeError) (p : String Global) (e : Expected) (s : List ℕ) → s ≡ string_bytes p
-    → x ≡ Missing p e → shown_text s ++ (codes ": missing, expected " ++ expected_text e) ≡ decode_error_text x
+    → x ≡ Missing p e → pointer_shown s ++ (codes ": missing, expected " ++ expected_text e) ≡ decode_error_text x
 missing-text x p e s at is = rw (is, at) refl
 
 pub unknown-text : (x : DecodeError) (p : String Global) (known : Bor (List (Bor (List ℕ)))) (s : List ℕ)
     → s ≡ string_bytes p → x ≡ Unknown p known
-    → shown_text s ++ (codes ": unknown key, expected " ++ names_text (map (λ n. n.now) known.now))
+    → pointer_shown s ++ (codes ": unknown key, expected " ++ names_text (map (λ n. n.now) known.now))
     ≡ decode_error_text x
 unknown-text x p known s at is = rw (is, at) refl

@@ -3,6 +3,7 @@ use Rattle.std.proofs.Common.{◌≡◌, ℕ, zero, suc, ◌+◌, List, [], ◌�
 use Rattle.std.proofs.Common.{refl, sym, ap, ◌∙◌, arith, cond, get_or, ◌<◌, true≢false}
 use Rattle.std.proofs.lemmas.Bool.Decides.{nat_tests}
 use Rattle.std.proofs.lemmas.List.Quantifiers.{position-Some}
+use Rattle.std.proofs.lemmas.Option.{none-some}
 use Rattle.std.specs.List.{position, position_or_len, remove}
 use Rattle.std.specs.Option.{option_map_or}
 use Rattle.std.specs.Str.{bytes_eq}
@@ -113,3 +114,20 @@ module _ {V : Type 0} where
   remove-past [] (suc i) h = refl
   remove-past (p ∷ ps) zero h = absurd (cc)
   remove-past (p ∷ ps) (suc i) h = ap (λ qs. p ∷ qs) (remove-past ps i h)
+
+-- a token that means no key names none
+not-later : (b : Bool) (n m : ℕ) → nat_lt n m ≡ b → cond b (Some n) None ≡ None
+    → cond (nat_lt (1 + n) (suc m)) (Some (1 + n)) None ≡ None
+not-later true n m e h = absurd (none-some n (sym h))
+not-later false n m e h =
+    let up : nat_lt (1 + n) (suc m) ≡ false = grind (arith, nat_tests) in
+    rw up refl
+
+none-anywhere : (ks : List (List ℕ)) → position (λ (k : List ℕ). false) ks ≡ None
+none-anywhere [] = refl
+none-anywhere (k ∷ ks) =
+    not-later (nat_lt (position_or_len (λ (k : List ℕ). false) ks) (length ks))
+    (position_or_len (λ (k : List ℕ). false) ks) (length ks) refl (none-anywhere ks)
+
+pub none-named : (t : List ℕ) (ks : List (List ℕ)) → token_key t ≡ None → position (names t) ks ≡ None
+none-named t ks h = ap (λ o. position (λ k. option_map_or (bytes_eq k) o false) ks) h ∙ none-anywhere ks

@@ -16,7 +16,7 @@ use Rattle.jzon.specs.Meaning.{meaning}
 use Rattle.jzon.specs.Reading.{Reading}
 use Rattle.jzon.specs.declared.located.LocatedError.{LocatedError}
 use Rattle.jzon.specs.declared.place.Place.{Place}
-use Rattle.jzon_tools.specs.DecodeFound.{FoundIs}
+use Rattle.jzon_tools.specs.DecodeFound.{FoundIs, shows_value}
 use Rattle.jzon_tools.specs.DecodeExpected.{Refuses}
 use Rattle.jzon_tools.specs.Escaped.{escaped}
 use Rattle.jzon_tools.specs.Pointer.{value_at}
@@ -56,6 +56,11 @@ pointer_of OutOfMemory = []
 pointer_of (Wrong p expected f) = string_bytes p
 pointer_of (Missing p expected) = string_bytes p
 pointer_of (Unknown p known) = string_bytes p
+
+-- the error shows no value
+abbrev pub HidesValue : DecodeError → Type 0
+HidesValue (Wrong p expected f) = shows_value f ≡ false
+HidesValue _ = ⊤
 
 -- the error with another pointer, if it has one
 abbrev pub moved_to : DecodeError → String Global → DecodeError

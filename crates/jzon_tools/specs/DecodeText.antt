@@ -1,37 +1,24 @@
 -- What `Display` shows of an error of a reading, and its kind as an `io::Error` (docs/TOOLS.md).
-use Rattle.std.specs.Prelude.{ℕ, List, [], ◌∷◌, ◌++◌, ◌/◌, ◌%◌, Bool, ◌&&◌, ◌||◌, ◌==◌, nat_lt, nat_le, if◌then◌else◌}
-use Rattle.std.specs.Prelude.{chars, codes, decimal, encode_utf8, flat_map, length, map, string_bytes}
-use Rattle.std.specs.Char.{digit_char}
+use Rattle.std.specs.Prelude.{ℕ, List, [], ◌∷◌, ◌++◌, ◌==◌, if◌then◌else◌}
+use Rattle.std.specs.Prelude.{codes, decimal, flat_map, length, map, string_bytes}
 use Rattle.std.specs.declared.io.ErrorKind.{ErrorKind}
 use Rattle.std.specs.declared.io.ErrorKind.TheVariants as kind
+use Rattle.jzon.specs.Error.{Error}
+use Rattle.jzon.specs.Error.TheVariants.{UnexpectedCharacter}
 use Rattle.jzon.specs.ErrorText.{io_kind}
+use Rattle.jzon.specs.ErrorText.{place_text as position_text}
 use Rattle.jzon.specs.Located.{located_text}
 use Rattle.jzon.specs.NumberText.{decimal_text}
+use Rattle.jzon.specs.declared.located.LocatedError.{LocatedError}
 use Rattle.jzon.specs.Text.{boolean_text}
+use Rattle.jzon_tools.specs.ErrorTexts.{primitive_text}
+use Rattle.jzon_tools.specs.Shown.{pointer_shown, shown_char, shown_text}
 use Rattle.jzon_tools.specs.declared.decode.error.DecodeError.{DecodeError}
 use Rattle.jzon_tools.specs.declared.decode.error.DecodeError.TheVariants as error
 use Rattle.jzon_tools.specs.declared.decode.error.Expected.{Expected}
 use Rattle.jzon_tools.specs.declared.decode.error.Expected.TheVariants as expected
 use Rattle.jzon_tools.specs.declared.decode.error.Found.{Found}
 use Rattle.jzon_tools.specs.declared.decode.error.Found.TheVariants as found
-
--- whether it is a control character, or one from U+007F to U+009F
-abbrev pub is_hidden : ℕ → Bool
-is_hidden c = nat_lt c 32 || (nat_le 127 c && nat_lt c 160)
-
--- the escape of a character below 256
-abbrev pub escape_text : ℕ → List ℕ
-escape_text c = codes "\\u00" ++ (digit_char (c / 16) ∷ digit_char (c % 16) ∷ [])
-
--- a character in a string of JSON; a hidden one is escaped
-abbrev pub shown_char : ℕ → List ℕ
-shown_char c = if c == 34 then codes "\\\"" else (if c == 92 then codes "\\\\" else (if c == 10 then codes "\\n" else
-    (if c == 13 then codes "\\r" else (if c == 9 then codes "\\t" else
-    (if is_hidden c then escape_text c else encode_utf8 c)))))
-
--- a text with such escapes
-abbrev pub shown_text : List ℕ → List ℕ
-shown_text bytes = flat_map shown_char (chars bytes)
 
 -- names after others, with commas before them
 abbrev pub others_text : List (List ℕ) → List ℕ
@@ -74,23 +61,30 @@ found_text (found.String s) = codes "\"" ++ shown_text (string_bytes s) ++ codes
 found_text (found.LongString n) = codes "a string of " ++ decimal n ++ codes " characters"
 found_text (found.Array n) = if n == 0 then codes "an empty array" else (if n == 1 then codes "an array of 1 element"
     else codes "an array of " ++ decimal n ++ codes " elements")
+found_text (found.Hidden p) = primitive_text p
 found_text (found.Object n) = if n == 0 then codes "an empty object" else (if n == 1 then codes "an object of 1 entry"
     else codes "an object of " ++ decimal n ++ codes " entries")
 
 -- the pointer of a value, and a colon; nothing of the whole value
 abbrev pub place_text : List ℕ → List ℕ
-place_text p = if length p == 0 then [] else shown_text p ++ codes ": "
+place_text p = if length p == 0 then [] else pointer_shown p ++ codes ": "
+
+-- the error of a text, whose character is escaped
+abbrev pub text_error_text : Error → LocatedError → List ℕ
+text_error_text (UnexpectedCharacter ch line column) l =
+    codes "Unexpected character: " ++ (shown_char ch ++ (codes " at " ++ position_text line column))
+text_error_text e l = located_text l
 
 -- the error
 abbrev pub decode_error_text : DecodeError → List ℕ
-decode_error_text (error.Text l) = located_text l
+decode_error_text (error.Text l) = text_error_text l.error l
 decode_error_text error.OutOfMemory = codes "Out of memory"
 decode_error_text (error.Wrong p e f) =
     place_text (string_bytes p) ++ (codes "expected " ++ (expected_text e ++ (codes ", found " ++ found_text f)))
 decode_error_text (error.Missing p e) =
-    shown_text (string_bytes p) ++ (codes ": missing, expected " ++ expected_text e)
+    pointer_shown (string_bytes p) ++ (codes ": missing, expected " ++ expected_text e)
 decode_error_text (error.Unknown p known) =
-    shown_text (string_bytes p) ++ (codes ": unknown key, expected " ++ names_text (map (λ n. n.now) known.now))
+    pointer_shown (string_bytes p) ++ (codes ": unknown key, expected " ++ names_text (map (λ n. n.now) known.now))
 
 -- the kind of the `io::Error` that it becomes
 abbrev pub decode_error_kind : DecodeError → ErrorKind

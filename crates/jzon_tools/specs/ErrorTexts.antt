@@ -3,6 +3,7 @@ use Rattle.std.specs.Prelude.{ℕ, List, [], ◌∷◌, ◌++◌, ◌-◌, ◌==
 use Rattle.std.specs.Option.{option_map_or}
 use Rattle.std.specs.declared.io.ErrorKind.{ErrorKind}
 use Rattle.std.specs.declared.io.ErrorKind.TheVariants as kind
+use Rattle.jzon_tools.specs.Shown.{pointer_shown, token_shown}
 use Rattle.jzon_tools.specs.declared.canonical.CanonicalError.{CanonicalError}
 use Rattle.jzon_tools.specs.declared.canonical.CanonicalError.TheVariants as canonical
 use Rattle.jzon_tools.specs.declared.patch.Cause.{Cause}
@@ -74,16 +75,16 @@ token_text path start end = before (end - start) (behind start path)
 -- why this token of the value at the pointer p names nothing
 abbrev pub explained : Reason → List ℕ → List ℕ → List ℕ
 explained BadEscape p t = codes "~ without 0 or 1 after it"
-explained NoMember p t = p ++ codes " has no key \"" ++ t ++ codes "\""
-explained NotAnIndex p t = p ++ codes " is an array, and \"" ++ t ++ codes "\" is no index"
-explained (OutOfRange n) p t = p ++ codes " has " ++ elements_text n
-explained (NoChildren k) p t = p ++ codes " is " ++ primitive_text k ++ codes " and has no members"
+explained NoMember p t = pointer_shown p ++ codes " has no key \"" ++ token_shown t ++ codes "\""
+explained NotAnIndex p t = pointer_shown p ++ codes " is an array, and \"" ++ token_shown t ++ codes "\" is no index"
+explained (OutOfRange n) p t = pointer_shown p ++ codes " has " ++ elements_text n
+explained (NoChildren k) p t = pointer_shown p ++ codes " is " ++ primitive_text k ++ codes " and has no members"
 
 -- what `Display` shows of the error and the pointer
 abbrev pub pointed_text : PointerError → List ℕ → List ℕ
-pointed_text pointer.NoSlash path = path ++ codes ": a pointer begins with /"
+pointed_text pointer.NoSlash path = pointer_shown path ++ codes ": a pointer begins with /"
 pointed_text (pointer.Missing start end reason) path =
-    path ++ codes ": " ++ explained reason (parent_text path start) (token_text path start end)
+    pointer_shown path ++ codes ": " ++ explained reason (parent_text path start) (token_text path start end)
 pointed_text error path = pointer_error_text error
 
 -- ---- the error of a patch
@@ -98,6 +99,8 @@ cause_text cause.UnknownOp = codes "unknown `op`"
 cause_text (cause.Pointer name error) = codes "`" ++ name.now ++ codes "`: " ++ pointer_error_text error
 cause_text cause.TestFailed = codes "test failed"
 cause_text cause.IntoItself = codes "moved into itself"
+cause_text cause.TooDeep = codes "nested too deep"
+cause_text cause.TooLarge = codes "copies too much"
 cause_text cause.OutOfMemory = codes "out of memory"
 
 -- of the number of an operation, before its cause
@@ -112,7 +115,7 @@ patch_error_text e = option_map_or operation_text e.operation [] ++ cause_text e
 abbrev pub pointed_cause_text : Cause → List ℕ → List ℕ
 pointed_cause_text (cause.Pointer name error) path = codes "`" ++ name.now ++ codes "`: " ++ pointed_text error path
 pointed_cause_text c [] = cause_text c
-pointed_cause_text c path = path ++ codes ": " ++ cause_text c
+pointed_cause_text c path = pointer_shown path ++ codes ": " ++ cause_text c
 
 -- of the error and its pointer
 abbrev pub shown_text : Option ℕ → Cause → List ℕ → List ℕ

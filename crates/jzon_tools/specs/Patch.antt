@@ -1,18 +1,20 @@
 -- What a patch makes of a value (RFC 6902).
-use Rattle.std.specs.Prelude.{ℕ, suc, List, [], ◌∷◌, length, nat_lt, ◌==◌, ◌&&◌, slice_index, nat_eq, Bool, false, true, codes, if◌then◌else◌}
+use Rattle.std.specs.Prelude.{ℕ, suc, List, [], ◌∷◌, ◌+◌, ◌-◌, ◌<◌, length, nat_lt, nat_le, ◌==◌, ◌&&◌, slice_index, nat_eq, Bool, false, true, codes, if◌then◌else◌}
 use Rattle.std.specs.Prelude.{◌≡◌, ◌⊎◌, ⊤, Result, Ok, Err, Option, None, Some, option_and_then, option_map}
-use Rattle.std.specs.List.{starts_with}
+use Rattle.std.specs.List.{count_by, starts_with}
 use Rattle.std.specs.Option.{option_map_or}
 use Rattle.std.specs.Result.{result_ok}
 use Rattle.std.specs.Str.{bytes_eq}
 use Rattle.jzon.specs.PairList.{find}
 use Rattle.jzon.specs.Readers.{entries, is_object, text_in}
 use Rattle.jzon.specs.Same.{same}
-use Rattle.jzon.specs.Value.{Value, array, Values, no_values, value}
+use Rattle.jzon.specs.Value.{Value, array, Values, no_values, value, nest}
 use Rattle.jzon_tools.specs.Pointer.{value_at, entry_at, inserted_at, removed_at, updated_at}
+use Rattle.jzon_tools.specs.Weight.{weight}
 use Rattle.jzon_tools.specs.declared.patch.Cause.{Cause}
 use Rattle.jzon_tools.specs.declared.patch.Cause.TheVariants.{NotAnArray, NotAnObject, Missing, NotAString, UnknownOp}
-use Rattle.jzon_tools.specs.declared.patch.Cause.TheVariants.{Pointer, TestFailed, IntoItself, OutOfMemory}
+use Rattle.jzon_tools.specs.declared.patch.Cause.TheVariants.{Pointer, TestFailed, IntoItself, TooDeep, TooLarge, OutOfMemory}
+use Rattle.jzon_tools.specs.declared.patch.Limits.{Limits}
 use Rattle.jzon_tools.specs.declared.patch.Op.{Op}
 use Rattle.jzon_tools.specs.declared.patch.Op.TheVariants.{Add, Remove, Replace, Move, Copy, Test}
 
@@ -98,22 +100,81 @@ abbrev pub applied : Value → Value → Option Value
 applied (array ops) v = applied_each ops v
 applied _ v = None
 
--- an operation that can't be done, its number, and the value before it
+-- ---- limits
+
+-- the tokens of a pointer: its slashes
+abbrev pub slashes : List ℕ → ℕ
+slashes path = count_by (λ c. c == 47) path
+
+-- what an operation with this meaning puts at its `path`
+abbrev pub placed_by : Op → Value → Value → Option Value
+placed_by Add op v = operand op
+placed_by Remove op v = None
+placed_by Replace op v = operand op
+placed_by Move op v = option_and_then (value_of v) (text_at (codes "from") op)
+placed_by Copy op v = option_and_then (value_of v) (text_at (codes "from") op)
+placed_by Test op v = None
+
+-- how many containers nest there, with those around it: what it puts is within one for each token
+abbrev pub depth_by : Op → List ℕ → Value → Value → ℕ
+depth_by o path op v = option_map_or (λ w. slashes path + nest w) (placed_by o op v) 0
+
+-- what it copies from elsewhere in the value
+abbrev pub copied_by : Op → Value → Value → ℕ
+copied_by Copy op v = option_map_or weight (placed_by Copy op v) 0
+copied_by _ op v = 0
+
+-- the same of an operation; 0 if it has no meaning or no `path`
+abbrev pub depth_in : Value → Value → ℕ
+depth_in op v = option_map_or (λ o. option_map_or (λ path. depth_by o path op v) (text_at (codes "path") op) 0) (op_of op) 0
+
+abbrev pub copied_in : Value → Value → ℕ
+copied_in op v = option_map_or (λ o. copied_by o op v) (op_of op) 0
+
+-- whether an operation keeps within limits
+abbrev pub is_within : Limits → Value → Value → Bool
+is_within l op v = nat_le (depth_in op v) l.depth && nat_le (copied_in op v) l.copied
+
+-- what an operation leaves of limits
+abbrev pub left_after : Limits → Value → Value → Limits
+left_after l op v = record { depth = l.depth; copied = l.copied - copied_in op v }
+
+-- v after an operation that keeps within limits
+abbrev pub operated_within : Limits → Value → Value → Option Value
+operated_within l op v = if is_within l op v then operated op v else None
+
+-- v after each of these operations, if all keep within limits
+abbrev pub each_within : Limits → Values → Value → Option Value
+each_within l no_values v = Some v
+each_within l (value op ops) v = option_and_then (each_within (left_after l op v) ops) (operated_within l op v)
+
+-- v after a patch that keeps within limits
+abbrev pub applied_within : Limits → Value → Value → Option Value
+applied_within l (array ops) v = each_within l ops v
+applied_within l _ v = None
+
+-- the limits of `apply`
+abbrev pub usual : Limits
+usual = record { depth = 512; copied = 16777216 }
+
+-- an operation that can't be done within what is left of limits, its number, and the value before it
 pub record Undone : Type 0 where
   pub number : ℕ
   pub operation : Value
   pub before : Value
+  pub left : Limits
 
 -- the first of these operations, numbered from i on, that can't be done on what those before it make of v
-abbrev pub undone_at : ℕ → Values → Value → Option Undone
-undone_at i no_values v = None
-undone_at i (value op ops) v =
-    option_map_or (undone_at (suc i) ops) (operated op v) (Some (record { number = i; operation = op; before = v }))
+abbrev pub undone_at : ℕ → Limits → Values → Value → Option Undone
+undone_at i l no_values v = None
+undone_at i l (value op ops) v =
+    option_map_or (undone_at (suc i) (left_after l op v) ops) (operated_within l op v)
+    (Some (record { number = i; operation = op; before = v; left = l }))
 
 -- the first operation of a patch that can't be done, numbered from 0; none if there is none, or it is no array
-abbrev pub first_undone : Value → Value → Option Undone
-first_undone (array ops) v = undone_at 0 ops v
-first_undone _ v = None
+abbrev pub first_undone : Limits → Value → Value → Option Undone
+first_undone l (array ops) v = undone_at 0 l ops v
+first_undone l _ v = None
 
 -- ---- why an operation can't be done
 
@@ -176,32 +237,41 @@ MovesIntoItself op =
     (op_of op ≡ Some Move) × (path : List ℕ) × (from : List ℕ) × (text_at (codes "path") op ≡ Some path)
     × (text_at (codes "from") op ≡ Some from) × (is_below path from ≡ true)
 
--- this is why an operation can't be done, if v is the value before it; memory may be refused at any
-abbrev pub IsCause : Cause → Value → Value → Type 0
-IsCause NotAnArray op v = ⊥
-IsCause NotAnObject op v = is_object op ≡ false
-IsCause (Missing name) op v = IsNeeded name.now op × (find name.now (entries op) ≡ None)
-IsCause (NotAString name) op v =
+-- this is why an operation can't be done within limits, if v is the value before it; memory may be refused at any
+abbrev pub IsCause : Cause → Limits → Value → Value → Type 0
+IsCause NotAnArray l op v = ⊥
+IsCause NotAnObject l op v = is_object op ≡ false
+IsCause (Missing name) l op v = IsNeeded name.now op × (find name.now (entries op) ≡ None)
+IsCause (NotAString name) l op v =
     IsText name.now op × (w : Value) × (find name.now (entries op) ≡ Some w) × (text_in w ≡ None)
-IsCause UnknownOp op v = (s : List ℕ) × (text_at (codes "op") op ≡ Some s) × (op_named s ≡ None)
-IsCause (Pointer name error) op v =
+IsCause UnknownOp l op v = (s : List ℕ) × (text_at (codes "op") op ≡ Some s) × (op_named s ≡ None)
+IsCause (Pointer name error) l op v =
     (path : List ℕ) × (u : Value) × IsLookup name.now path u op v × (entry_at u path ≡ Err error)
     × (path ≡ [] → Takes name.now op)
-IsCause TestFailed op v = TestFails op v
-IsCause IntoItself op v = MovesIntoItself op
-IsCause OutOfMemory op v = ⊤
+IsCause TestFailed l op v = TestFails op v
+IsCause IntoItself l op v = MovesIntoItself op
+IsCause TooDeep l op v = l.depth < depth_in op v
+IsCause TooLarge l op v = l.copied < copied_in op v
+IsCause OutOfMemory l op v = ⊤
 
 -- this is why a patch isn't applied: why its first operation that can't be done isn't, or that it is no array
 abbrev pub IsCauseOf : Option Undone → Cause → Type 0
 IsCauseOf None c = c ≡ NotAnArray
-IsCauseOf (Some u) c = IsCause c u.operation u.before
+IsCauseOf (Some u) c = IsCause c u.left u.operation u.before
+
+-- whether it is no fault of the operation: a limit, or that memory was refused
+abbrev pub is_refusal : Cause → Bool
+is_refusal TooDeep = true
+is_refusal TooLarge = true
+is_refusal OutOfMemory = true
+is_refusal _ = false
 
 -- ---- what a step returns
 
--- w is what there is to be, or there is nothing to be; or memory was refused
+-- w is what there is to be, or there is nothing to be; or it was refused
 abbrev pub IsDone : Option Value → Value → Result (Unit {0}) Cause → Type 0
 IsDone o w (Ok _) = o ≡ Some w
-IsDone o w (Err e) = (e ≡ OutOfMemory) ⊎ (o ≡ None)
+IsDone o w (Err e) = (is_refusal e ≡ true) ⊎ (o ≡ None)
 
 -- a copy of v after a step: that before it, or a new one if there was none
 abbrev pub IsBackup : Value → Option Value → Option Value → Type 0

@@ -14,7 +14,6 @@ mod error;
 mod fields;
 mod impls;
 mod path;
-mod shown;
 
 pub use error::{DecodeError, Expected, Found, Known, LONGEST};
 pub use fields::Fields;

@@ -9,5 +9,7 @@ pub mod merge;
 pub mod patch;
 pub mod pointer;
 pub mod redact;
+mod shown;
 pub mod sorted_layout;
 mod token;
+mod weight;

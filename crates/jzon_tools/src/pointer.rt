@@ -15,6 +15,8 @@ ghost use Rattle.jzon_tools.specs.declared.pointer.PointerError.TheVariants.{NoS
 
 mod edit;
 
+pub use crate::shown::ShownPointer;
+use crate::shown::ShownToken;
 use crate::token::{first_token, has_index_form, index_of, is_well_escaped, member, push_escaped};
 pub use edit::{insert, remove, replace, update};
 use jzon::{JsonValue, io_error};
@@ -156,14 +158,14 @@ impl fmt::Display for InPointer<'_> {
     ghost output = { λ e. Some (pointed_text e.error e.pointer.now) };
 
     fn fmt<W: fmt::Write>(&self, f: &mut fmt::Formatter<W>) -> fmt::Result {
-        let pointer = self.pointer;
+        let pointer = ShownPointer(self.pointer);
         match self.error {
             PointerError::NoSlash => write!(f, "{pointer}: a pointer begins with /"),
             PointerError::Missing { start, end, reason } => {
                 let why = Explained {
                     reason,
-                    parent: parent(pointer, start),
-                    token: token(pointer, start, end),
+                    parent: parent(self.pointer, start),
+                    token: token(self.pointer, start, end),
                 };
                 write!(f, "{pointer}: {why}")
             }
@@ -176,8 +178,8 @@ impl fmt::Display for Explained<'_> {
     ghost output = { λ e. Some (explained e.reason e.parent.now e.token.now) };
 
     fn fmt<W: fmt::Write>(&self, f: &mut fmt::Formatter<W>) -> fmt::Result {
-        let parent = self.parent;
-        let token = self.token;
+        let parent = ShownPointer(self.parent);
+        let token = ShownToken(self.token);
         match self.reason {
             Reason::BadEscape => f.write_str("~ without 0 or 1 after it"),
             Reason::NoMember => write!(f, "{parent} has no key \"{token}\""),

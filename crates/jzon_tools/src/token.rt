@@ -1,7 +1,9 @@
 //! The reference tokens of a pointer's text (RFC 6901, sections 3 and 4).
 //!
 //! A token is kept as it is written. Where it has no `~`, it is the key itself, and the object's index
-//! finds it. A token with an escape is compared with each key in turn, so that nothing is allocated.
+//! finds it. A token with an escape is decoded first, on the stack, so that nothing is allocated. One
+//! that means a key of more than `DECODED_MAX` bytes is compared with each key in turn: so it takes
+//! time for all keys, but not more often than once for so many bytes of a pointer.
 
 ghost use Rattle.std.specs.Prelude.{◌≡◌, ◌&&◌, ◌==◌, ◌<◌, ◌≤◌, ◌+◌, ◌∷◌, ◌++◌, nat_lt, suc, true, false, if◌then◌else◌, MatchOption, OnOk, OnErr, length, drop, slice_index, option_map, option_and_then, IfOk, IfSome, string_bytes, None, Some};
 ghost use Rattle.std.specs.Char.{is_ascii_digit};
@@ -13,9 +15,16 @@ ghost use Rattle.jzon.specs.View.{view, view_object};
 ghost use Rattle.jzon_tools.specs.Escaped.{escaped, slashed};
 ghost use Rattle.jzon_tools.specs.Pointer.{is_index, index_named, names, tokens_in, tokens_left, token_key, with_new};
 
+use arrayvec::ArrayString;
 use jzon::JsonValue;
 use jzon::object::Object;
 use std::alloc::{AllocError, Global};
+
+/// Among so few keys, a token with an escape is compared with each: that takes less than to decode it.
+const FEW: usize = 16;
+
+/// The longest key to which a token is decoded on the stack.
+const DECODED_MAX: usize = 512;
 
 /// The first token of a text, and the text of the others, if there are any.
 pub fn first_token(text: &str) -> (&str, Option<&str>)
@@ -75,7 +84,66 @@ pub fn position_of(object: &Object, token: &str) -> Option<usize>
     if is_plain(token) {
         return object.get_index_of(token);
     }
+    if object.len() <= FEW {
+        return position_compared(object, token);
+    }
+    position_decoded(object, token)
+}
+
+/// The same, by a comparison with each key.
+fn position_compared(object: &Object, token: &str) -> Option<usize>
+    ensures { result ≡ position (names token.now) (keys_of (entries_of object.now)) }
+{
     object.keys().position(|key| is_name(token, key))
+}
+
+/// The same of a token with an escape. Not inlined, so that only it has room for the key.
+#[inline(never)]
+fn position_decoded(object: &Object, token: &str) -> Option<usize>
+    ensures { result ≡ position (names token.now) (keys_of (entries_of object.now)) }
+{
+    match decoded(token) {
+        Some(Some(key)) => object.get_index_of(key.as_str()),
+        Some(None) => None,
+        None => position_compared(object, token),
+    }
+}
+
+/// The key that a token names, or `None` if it doesn't fit; inside, `None` for a bad escape.
+fn decoded(token: &str) -> Option<Option<ArrayString<DECODED_MAX>>>
+    ensures { IfSome result (λ key. option_map (λ k. k.bytes) key ≡ token_key token.now) }
+{
+    let mut key = ArrayString::new();
+    let mut rest = token;
+    'escapes: while let Some((plain, after)) = rest.split_once('~') {
+        if !push(&mut key, plain) {
+            return None;
+        }
+        if let Some(more) = after.strip_prefix('0') {
+            if !push(&mut key, "~") {
+                return None;
+            }
+            rest = more;
+        } else if let Some(more) = after.strip_prefix('1') {
+            if !push(&mut key, "/") {
+                return None;
+            }
+            rest = more;
+        } else {
+            return Some(None);
+        }
+    }
+    if !push(&mut key, rest) {
+        return None;
+    }
+    Some(Some(key))
+}
+
+/// Appends a text, if it fits.
+fn push(key: &mut ArrayString<DECODED_MAX>, text: &str) -> bool
+    ensures { result ≡ true → key.new.bytes ≡ key.old.bytes ++ text.now }
+{
+    key.try_push_str(text).is_ok()
 }
 
 /// Whether a token is the key itself, since it has no `~`.

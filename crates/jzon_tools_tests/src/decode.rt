@@ -172,6 +172,9 @@ const READ: &[(&str, As, &str)] = rows! {
     (r#"{"name":"a","name":"b"}"#, As::Sample, "Duplicate key at (1:13)")
     ("18446744073709551616", As::U64, "Number is not exact at (1:20)")
     ("[1,", As::Lists, "Unexpected end of JSON at (1:4)")
+    ("{\"name\":\"a\n2026\"}", As::Sample, "Unexpected character: \\n at (1:11)")
+    ("\u{1b}", As::U8, "Unexpected character: \\u001b at (1:1)")
+    ("\"\u{ad}\u{202e}\u{2028}\u{200b}\u{feff}é\"", As::Truth, r#"expected true or false, found "\u00ad\u202e\u2028\u200b\ufeffé""#)
 };
 
 /// What is left of a text after it was read, converted, read and converted again.
@@ -231,6 +234,57 @@ fn reads_and_refuses(rt: HostRuntime) -> Tested {
             Err(error) => format!(in alloc; "{error}")?,
         };
         expect_eq(&rt, text, found.as_str(), *want);
+    }
+    Ok(())
+}
+
+/// A text that isn't read, and the message without the value that is there.
+const HIDDEN: &[(&str, As, &str)] = rows! {
+    (r#""hunter2""#, As::U8, "expected an integer from 0 to 255, found a string")
+    (r#""01234567890123456789012345678901234567890""#, As::U8, "expected an integer from 0 to 255, found a string")
+    ("256", As::U8, "expected an integer from 0 to 255, found a number")
+    ("true", As::U8, "expected an integer from 0 to 255, found a boolean")
+    ("null", As::U8, "expected an integer from 0 to 255, found null")
+    ("[1]", As::U8, "expected an integer from 0 to 255, found an array of 1 element")
+    ("{}", As::U8, "expected an integer from 0 to 255, found an empty object")
+    (r#"{"name":"a","lists":[["b"]]}"#, As::Sample, "/lists/0/0: expected an integer from 0 to 65535, found a string")
+    ("{}", As::Sample, "/name: missing, expected a string")
+    (r#"{"a":1}"#, As::Sample, "/a: unknown key, expected name, small, cents, lists, price, a/b~c")
+    ("[1,", As::Lists, "Unexpected end of JSON at (1:4)")
+};
+
+#[test]
+fn hides_values(rt: HostRuntime) -> Tested {
+    let alloc = rt.alloc();
+    for (text, kind, want) in HIDDEN {
+        match printed(alloc, text, *kind) {
+            Ok(_found) => expect(&rt, text, false),
+            Err(error) => {
+                let error = error.without_value();
+                let found = format!(in alloc; "{error}")?;
+                expect_eq(&rt, text, found.as_str(), *want);
+            }
+        }
+    }
+    Ok(())
+}
+
+/// A message has 200 characters of a pointer.
+#[test]
+fn cuts_long_pointers(rt: HostRuntime) -> Tested {
+    let alloc = rt.alloc();
+    let text = joined(alloc, &[("{\"", 1), ("a", 150), ("b", 150), ("\":1}", 1)])?;
+    let known = ": unknown key, expected name, small, cents, lists, price, a/b~c";
+    let want = joined(
+        alloc,
+        &[("/", 1), ("a", 99), ("..", 1), ("b", 100), (known, 1)],
+    )?;
+    match decode::from_text::<Sample>(alloc, text.as_str()) {
+        Ok(_read) => expect(&rt, known, false),
+        Err(error) => {
+            let found = format!(in alloc; "{error}")?;
+            expect_eq(&rt, known, found.as_str(), want.as_str());
+        }
     }
     Ok(())
 }

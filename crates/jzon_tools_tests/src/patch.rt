@@ -2,8 +2,8 @@
 
 use crate::common::{Tested, Tester, expect, expect_dump, expect_eq};
 use jzon::JsonValue;
-use jzon_test_support::{RUNS_MAX, Refusals, rows};
-use jzon_tools::patch::{self, Cause, PatchError};
+use jzon_test_support::{RUNS_MAX, Refusals, joined, rows};
+use jzon_tools::patch::{self, Cause, Limits, PatchError};
 use jzon_tools::pointer::PointerError::{Missing, NoSlash, WholeValue};
 use jzon_tools::pointer::Primitive;
 use jzon_tools::pointer::Reason::{NoChildren, NoMember, NotAnIndex, OutOfRange};
@@ -124,12 +124,103 @@ fn refuses_a_member_twice(rt: HostRuntime) {
     );
 }
 
+/// A value, a patch, a depth and a weight, and the result within these limits and after a limit of
+/// one less. What is added isn't counted.
+const LIMITED: &[(&str, &str, usize, usize, Option<Cause>)] = rows! {
+    ("[]", r#"[{"op":"add","path":"/-","value":[[1]]}]"#, 3, 0, None)
+    ("[]", r#"[{"op":"add","path":"/-","value":[[1]]}]"#, 2, 0, Some(Cause::TooDeep))
+    ("[]", r#"[{"op":"add","path":"","value":[{"a":[]}]}]"#, 2, 0, None)
+    ("[]", r#"[{"op":"add","path":"","value":[{"a":[]}]}]"#, 1, 0, Some(Cause::TooDeep))
+    (r#"{"a":{}}"#, r#"[{"op":"replace","path":"/a","value":[1]}]"#, 2, 0, None)
+    (r#"{"a":{}}"#, r#"[{"op":"replace","path":"/a","value":[1]}]"#, 1, 0, Some(Cause::TooDeep))
+    (r#"{"a":[1],"b":{}}"#, r#"[{"op":"move","from":"/a","path":"/b/c"}]"#, 3, 0, None)
+    (r#"{"a":[1],"b":{}}"#, r#"[{"op":"move","from":"/a","path":"/b/c"}]"#, 2, 0, Some(Cause::TooDeep))
+    (r#"{"a":[1]}"#, r#"[{"op":"copy","from":"","path":"/b"}]"#, 3, 145, None)
+    (r#"{"a":[1]}"#, r#"[{"op":"copy","from":"","path":"/b"}]"#, 2, 145, Some(Cause::TooDeep))
+    (r#"{"a":[1]}"#, r#"[{"op":"copy","from":"","path":"/b"}]"#, 3, 144, Some(Cause::TooLarge))
+    (r#"{"a":"xy"}"#, r#"[{"op":"copy","from":"/a","path":"/b"}]"#, 9, 50, None)
+    (r#"{"a":"xy"}"#, r#"[{"op":"copy","from":"/a","path":"/b"}]"#, 9, 49, Some(Cause::TooLarge))
+    ("[[[[1]]]]", r#"[{"op":"test","path":"/0","value":[[[1]]]},{"op":"remove","path":"/0/0"}]"#, 0, 0, None)
+};
+
+#[test]
+fn applies_within_limits(rt: HostRuntime) -> Tested {
+    for (before, text, depth, copied, cause) in LIMITED {
+        let mut value = jzon::parse(rt.alloc(), before)?;
+        let patch = jzon::parse(rt.alloc(), text)?;
+        let limits = Limits {
+            depth: *depth,
+            copied: *copied,
+        };
+        let outcome = patch::apply_within(rt.alloc(), &mut value, &patch, &limits);
+        let found = outcome.err().map(|error| error.cause);
+        expect_eq(&rt, text, found, *cause);
+        if cause.is_some() {
+            expect_dump(&rt, &value, before);
+        }
+    }
+    Ok(())
+}
+
+/// Each copy doubles the value. The one that would pass the limit is refused, and so are all.
+#[test]
+fn stops_copies(rt: HostRuntime) -> Tested {
+    let alloc = rt.alloc();
+    let copy = r#"{"op":"copy","from":"","path":"/-"},"#;
+    let text = joined(
+        alloc,
+        &[("[", 1), (copy, 40), (r#"{"op":"remove","path":"/0"}]"#, 1)],
+    )?;
+    let patch = jzon::parse(alloc, text.as_str())?;
+    let mut value = jzon::parse(alloc, "[1]")?;
+    let limits = Limits {
+        copied: 65_536,
+        ..Limits::USUAL
+    };
+    let outcome = patch::apply_within(alloc, &mut value, &patch, &limits);
+    let error = PatchError {
+        operation: Some(9),
+        cause: Cause::TooLarge,
+    };
+    expect_eq(&rt, copy, outcome, Err(error));
+    expect_dump(&rt, &value, "[1]");
+    expect_eq(&rt, copy, Limits::USUAL.copied, 16_777_216);
+    Ok(())
+}
+
+/// Each copy to the deepest place doubles the depth. None passes what `parse` reads.
+#[test]
+fn stops_at_the_depth_that_is_read(rt: HostRuntime) -> Tested {
+    let alloc = rt.alloc();
+    let path = joined(alloc, &[("/0", 255), ("/-", 1)])?;
+    let path = path.as_str();
+    let first = format!(in alloc; r#"{{"op":"copy","from":"","path":"{path}"}}"#)?;
+    let first = first.as_str();
+    let text = format!(in alloc; "[{first},{first}]")?;
+    let mut value = jzon::parse(alloc, joined(alloc, &[("[", 256), ("]", 256)])?.as_str())?;
+    let error = PatchError {
+        operation: Some(1),
+        cause: Cause::TooDeep,
+    };
+    let patch = jzon::parse(alloc, text.as_str())?;
+    let outcome = patch::apply(alloc, &mut value, &patch);
+    expect_eq(&rt, "doubled", outcome, Err(error));
+    let once = format!(in alloc; "[{first}]")?;
+    let patch = jzon::parse(alloc, once.as_str())?;
+    let outcome = patch::apply(alloc, &mut value, &patch);
+    expect_eq(&rt, "once", outcome, Ok(()));
+    expect(&rt, "once", jzon::Reading::USUAL.admits(&value));
+    Ok(())
+}
+
 /// The words of errors.
 const WORDS: &[(Option<usize>, Cause, &str)] = rows! {
     (None, Cause::NotAnArray, "the patch isn't an array")
     (Some(2), Cause::TestFailed, "operation 2: test failed")
     (Some(0), Cause::Missing("op"), "operation 0: `op` is missing")
     (Some(1), Cause::Pointer("from", NoSlash), "operation 1: `from`: The pointer begins with no /")
+    (Some(3), Cause::TooDeep, "operation 3: nested too deep")
+    (Some(3), Cause::TooLarge, "operation 3: copies too much")
 };
 
 #[test]
@@ -238,6 +329,23 @@ fn shows_pointers(rt: HostRuntime) -> Tested {
             (kind == io::ErrorKind::OutOfMemory) == is_memory,
         );
     }
+    Ok(())
+}
+
+/// The pointer is escaped.
+#[test]
+fn shows_pointers_on_one_line(rt: HostRuntime) -> Tested {
+    let patch = jzon::parse(
+        rt.alloc(),
+        r#"[{"op":"test","path":"/a\nb\u001b","value":1}]"#,
+    )?;
+    let error = PatchError {
+        operation: Some(0),
+        cause: Cause::TestFailed,
+    };
+    let shown = format!(in rt.alloc(); "{}", error.shown(&patch))?;
+    let want = "operation 0: /a\\nb\\u001b: test failed";
+    expect_eq(&rt, want, shown.as_str(), want);
     Ok(())
 }
 

@@ -3,7 +3,7 @@
 use crate::common::{Tested, Tester, expect, expect_dump, expect_eq};
 use Change::{Insert, Remove, Replace, Update};
 use jzon::JsonValue;
-use jzon_test_support::{RUNS_MAX, Refusals, rows};
+use jzon_test_support::{RUNS_MAX, Refusals, joined, rows};
 use jzon_tools::pointer::PointerError::{Missing, NoSlash, WholeValue};
 use jzon_tools::pointer::Reason::{BadEscape, NoChildren, NoMember, NotAnIndex, OutOfRange};
 use jzon_tools::pointer::{self, InPointer, PointerError, Primitive, Reason};
@@ -244,6 +244,8 @@ const POINTED: &[(&str, &str, &str)] = rows! {
     (r#"{"a":{"é":1}}"#, "/a/é/x", "/a/é/x: /a/é is a number and has no members")
     (r#"{"":{}}"#, "//", "//: / has no key \"\"")
     ("1", "a", "a: a pointer begins with /")
+    ("1", "\n", "\\n: a pointer begins with /")
+    ("{}", "/a\n\u{1b}[2J\u{202e}", "/a\\n\\u001b[2J\\u202e: the whole value has no key \"a\\n\\u001b[2J\\u202e\"")
 };
 
 #[test]
@@ -297,6 +299,80 @@ fn shows_errors(rt: HostRuntime) -> Tested {
             _ => ErrorKind::InvalidData,
         };
         expect_eq(&rt, words, raised.kind(), kind);
+    }
+    Ok(())
+}
+
+/// A message has 40 characters of a token, and 200 of a pointer.
+#[test]
+fn cuts_long_tokens_and_pointers(rt: HostRuntime) -> Tested {
+    let alloc = rt.alloc();
+    let value = JsonValue::Null;
+    let path = joined(
+        alloc,
+        &[("/", 1), ("é", 150), ("b", 150), ("/", 1), ("c", 41)],
+    )?;
+    let path = path.as_str();
+    let shown = format!(in alloc; "{}", pointer::ShownPointer(path))?;
+    let want = joined(
+        alloc,
+        &[
+            ("/", 1),
+            ("é", 99),
+            ("..", 1),
+            ("b", 58),
+            ("/", 1),
+            ("c", 41),
+        ],
+    )?;
+    expect_eq(&rt, path, shown.as_str(), want.as_str());
+    if let Err(error) = pointer::find(&value, path) {
+        let message = format!(in alloc; "{}", error.in_pointer(path))?;
+        let want = format!(in alloc; "{want}: the whole value is null and has no members")?;
+        expect_eq(&rt, path, message.as_str(), want.as_str());
+    }
+    let value = jzon::parse(alloc, "{}")?;
+    let path = joined(alloc, &[("/", 1), ("c", 41)])?;
+    let path = path.as_str();
+    if let Err(error) = pointer::find(&value, path) {
+        let message = format!(in alloc; "{}", error.in_pointer(path))?;
+        let token = joined(alloc, &[("c", 40), ("..", 1)])?;
+        let want = format!(in alloc; "{path}: the whole value has no key \"{token}\"")?;
+        expect_eq(&rt, path, message.as_str(), want.as_str());
+    }
+    Ok(())
+}
+
+/// Among many keys, those that have a `~` or a `/`, also long ones, are found; none by a bad escape.
+#[test]
+fn finds_escaped_keys(rt: HostRuntime) -> Tested {
+    let alloc = rt.alloc();
+    let mut value = jzon::parse(alloc, r#"{"a~b":1,"/":2,"~1":3}"#)?;
+    let long = joined(alloc, &[("~", 511), ("x", 1)])?;
+    let longer = joined(alloc, &[("~", 512), ("x", 1)])?;
+    value.insert(alloc, long.as_str(), 4u8)?;
+    value.insert(alloc, longer.as_str(), 5u8)?;
+    for at in 0u8..40 {
+        let key = format!(in alloc; "~{at}")?;
+        value.insert(alloc, key.as_str(), at)?;
+    }
+    let long = joined(alloc, &[("/", 1), ("~0", 511), ("x", 1)])?;
+    let longer = joined(alloc, &[("/", 1), ("~0", 512), ("x", 1)])?;
+    let bad = joined(alloc, &[("/", 1), ("~0", 600), ("~", 1)])?;
+    let found: [(&str, Option<u8>); 9] = [
+        ("/a~0b", Some(1)),
+        ("/~1", Some(2)),
+        ("/~01", Some(1)),
+        ("/~039", Some(39)),
+        ("/~040", None),
+        ("/~2", None),
+        (long.as_str(), Some(4)),
+        (longer.as_str(), Some(5)),
+        (bad.as_str(), None),
+    ];
+    for (path, number) in found {
+        let at = pointer::get(&value, path).and_then(|found| found.as_u8());
+        expect_eq(&rt, path, at, number);
     }
     Ok(())
 }

@@ -7,15 +7,16 @@ ghost use Rattle.jzon.specs.PairList.{find};
 ghost use Rattle.jzon.specs.Readers.{entries, is_object, items, text_in};
 ghost use Rattle.jzon.specs.Value.{Value};
 ghost use Rattle.jzon.specs.View.{view};
-ghost use Rattle.jzon_tools.specs.Decode.{error_of, located_error, moved_to, pointer_of, IsErrorIn};
+ghost use Rattle.jzon_tools.specs.Decode.{error_of, located_error, moved_to, pointer_of, HidesValue, IsErrorIn};
 ghost use Rattle.jzon_tools.specs.DecodeExpected.{Refuses};
-ghost use Rattle.jzon_tools.specs.DecodeFound.{FoundIs};
+ghost use Rattle.jzon_tools.specs.DecodeFound.{FoundIs, shows_value};
 ghost use Rattle.jzon_tools.specs.DecodeText.{decode_error_kind, decode_error_text, expected_text, found_text};
 ghost use Rattle.jzon_tools.specs.Redact.{is_among};
 ghost use Rattle.jzon_tools.specs.declared.decode.error.DecodeError.TheVariants.{OutOfMemory};
 
 use super::path;
-use super::shown::{show_names, show_place, show_text};
+use crate::pointer::Primitive;
+use crate::shown::{show_names, show_place, show_pointer, show_text, show_text_error};
 use jzon::number::Number;
 use jzon::{Error, JsonValue, LocatedError, io_error};
 use std::alloc::{AllocError, AllocFailed, Global};
@@ -88,6 +89,8 @@ pub enum Found {
     Array(usize),
     /// An object of this many entries.
     Object(usize),
+    /// A value that `without_value` left out: its type alone.
+    Hidden(Primitive),
 }
 
 /// The keys that an object may have, as they are written in a program.
@@ -176,6 +179,37 @@ impl DecodeError {
         }
     }
 
+    /// The error without what is there, of which only the type is left, so that a password or a
+    /// token doesn't get into a log: `/token: expected an integer, found a string`. An array or an
+    /// object is named by its size in any case. A key in the pointer is kept.
+    ///
+    /// ```rust
+    /// Err(fields.expected("password", "at least 12 characters").without_value())
+    /// ```
+    pub fn without_value(self) -> DecodeError
+        ensures error { (v : Value) → IsErrorIn v self → IsErrorIn v result }
+        ensures hidden { HidesValue result }
+        ensures pointer { pointer_of result ≡ pointer_of self }
+    {
+        match self {
+            DecodeError::Text(error) => DecodeError::Text(error),
+            DecodeError::OutOfMemory => DecodeError::OutOfMemory,
+            DecodeError::Wrong {
+                pointer,
+                expected,
+                found,
+            } => DecodeError::Wrong {
+                pointer,
+                expected,
+                found: found.hidden(),
+            },
+            DecodeError::Missing { pointer, expected } => {
+                DecodeError::Missing { pointer, expected }
+            }
+            DecodeError::Unknown { pointer, known } => DecodeError::Unknown { pointer, known },
+        }
+    }
+
     /// With another pointer.
     fn moved(self, to: String) -> DecodeError
         ensures { result ≡ moved_to self to }
@@ -207,6 +241,25 @@ impl DecodeError {
     }
 }
 
+impl Found {
+    /// Its type, or its size.
+    fn hidden(self) -> Found
+        ensures found { (v : Value) → FoundIs self v → FoundIs result v }
+        ensures hidden { shows_value result ≡ false }
+    {
+        match self {
+            Found::Null => Found::Null,
+            Found::Boolean(_truth) => Found::Hidden(Primitive::Boolean),
+            Found::Number(_number) => Found::Hidden(Primitive::Number),
+            Found::String(_text) => Found::Hidden(Primitive::String),
+            Found::LongString(_count) => Found::Hidden(Primitive::String),
+            Found::Array(count) => Found::Array(count),
+            Found::Object(count) => Found::Object(count),
+            Found::Hidden(kind) => Found::Hidden(kind),
+        }
+    }
+}
+
 /// What a value is.
 #[tactic(auto, using(crate::proofs::DecodeViews::describing))]
 fn describe(alloc: Global, value: &JsonValue) -> Result<Found, AllocError>
@@ -234,13 +287,14 @@ fn describe_string(alloc: Global, text: &str) -> Result<Found, AllocError>
     Ok(Found::String(String::from_str(alloc, text)?))
 }
 
-/// One line, in which control characters and U+007F to U+009F are escaped. Flags are ignored.
+/// One line, in which characters that aren't seen, or turn the line, are escaped. Of a pointer of more
+/// than 200 characters the middle is left out. Flags are ignored.
 impl fmt::Display for DecodeError {
     ghost output = { λ e. Some (decode_error_text e) };
 
     fn fmt<W: fmt::Write>(&self, f: &mut fmt::Formatter<W>) -> fmt::Result {
         match self {
-            DecodeError::Text(error) => write!(f, "{error}"),
+            DecodeError::Text(error) => show_text_error(f, error),
             DecodeError::OutOfMemory => f.write_str("Out of memory"),
             DecodeError::Wrong {
                 pointer,
@@ -251,11 +305,11 @@ impl fmt::Display for DecodeError {
                 write!(f, "expected {expected}, found {found}")
             }
             DecodeError::Missing { pointer, expected } => {
-                show_text(f, pointer.as_str())?;
+                show_pointer(f, pointer.as_str())?;
                 write!(f, ": missing, expected {expected}")
             }
             DecodeError::Unknown { pointer, known } => {
-                show_text(f, pointer.as_str())?;
+                show_pointer(f, pointer.as_str())?;
                 f.write_str(": unknown key, expected ")?;
                 show_names(f, known)
             }
@@ -310,6 +364,7 @@ impl fmt::Display for Found {
                 show_text(f, text.as_str())?;
                 f.write_str("\"")
             }
+            Found::Hidden(kind) => write!(f, "{kind}"),
             Found::LongString(count) => write!(f, "a string of {count} characters"),
             Found::Array(0) => f.write_str("an empty array"),
             Found::Array(1) => f.write_str("an array of 1 element"),

@@ -1,7 +1,7 @@
 use Rattle.std.proofs.Common.{map, take}
 use Rattle.std.specs.Fmt.{HasWritten, IsPlainFormatter}
 use Rattle.jzon_tools.specs.DecodeText.{others_text}
-use Rattle.jzon_tools.proofs.decode.shown.show_others.Given as goal
+use Rattle.jzon_tools.proofs.shown.show_others.Given as goal
 
 -- the names before the index are written
 abbrev pub invariant-loop-name : goal.invariant-loop-name

@@ -3,8 +3,8 @@ use Rattle.std.proofs.Output.{has_written_append, has_written_of_eq}
 use Rattle.std.proofs.lemmas.Iterator.{YieldsList-from_chars}
 use Rattle.std.proofs.lemmas.Iterator.Consumers.{YieldsList-end}
 use Rattle.std.proofs.lemmas.List.{flat_map_more}
-use Rattle.jzon_tools.specs.DecodeText.{shown_char}
-use Rattle.jzon_tools.proofs.decode.shown.show_text.Goals as goal
+use Rattle.jzon_tools.specs.Shown.{shown_char}
+use Rattle.jzon_tools.proofs.shown.show_text.Goals as goal
 
 pub loop-ch-preserved : goal.loop-ch-preserved
 loop-ch-preserved g c = λ plain.

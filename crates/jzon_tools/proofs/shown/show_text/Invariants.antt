@@ -1,7 +1,7 @@
 use Rattle.std.proofs.Common.{flat_map}
 use Rattle.std.specs.Fmt.{HasWritten, IsPlainFormatter}
-use Rattle.jzon_tools.specs.DecodeText.{shown_char}
-use Rattle.jzon_tools.proofs.decode.shown.show_text.Given as goal
+use Rattle.jzon_tools.specs.Shown.{shown_char}
+use Rattle.jzon_tools.proofs.shown.show_text.Given as goal
 
 -- the characters so far are written
 abbrev pub invariant-loop-ch : goal.invariant-loop-ch

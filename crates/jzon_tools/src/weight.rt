@@ -1,0 +1,89 @@
+//! How deep a value nests, and how much it weighs, up to a limit: each call ends where the value
+//! passes it.
+
+ghost use Rattle.std.specs.Prelude.{◌≡◌, ◌+◌, ◌<◌, nat_le, nat_lt, map, None, IfSome};
+ghost use Rattle.std.specs.List.{list_all};
+ghost use Rattle.std.specs.Slice.Iter.{iter_rest};
+ghost use Rattle.jzon.specs.Entries.{entries_of};
+ghost use Rattle.jzon.specs.Value.{nest};
+ghost use Rattle.jzon.specs.View.{view, view_pairs, view_values};
+ghost use Rattle.jzon_tools.specs.Weight.{weight, weight_pairs, weight_values};
+
+use jzon::JsonValue;
+use jzon::object::Object;
+use std::slice;
+
+/// What each value weighs, beside the bytes of its string.
+const EACH: usize = 48;
+
+/// Whether at most `depth` non-empty containers nest in the value. Ends at the first that is too
+/// deep.
+#[cycle(nests)]
+#[tactic(auto, using(crate::proofs::WeightSteps::nesting))]
+pub fn nests_within(value: &JsonValue, depth: usize) -> bool
+    ensures { result ≡ nat_le (nest (view value.now)) depth }
+{
+    match value {
+        JsonValue::Array(items) => all_nest_within(items.iter(), depth),
+        JsonValue::Object(object) => all_nest_within(object.values(), depth),
+        _ => true,
+    }
+}
+
+/// The same of the values in a container.
+#[cycle(nests)]
+fn all_nest_within(values: slice::Iter<'_, JsonValue>, depth: usize) -> bool
+    ensures { result ≡ list_all (λ v. nat_lt (nest v) depth) (map view (iter_rest values.entry)) }
+{
+    for value in values {
+        if depth == 0 || !nests_within(value, depth - 1) {
+            return false;
+        }
+    }
+    true
+}
+
+/// What is left of `room` after the weight of the value, or `None` if it weighs more.
+#[cycle(weigh)]
+#[tactic(auto, using(crate::proofs::WeightSteps::weighing))]
+pub fn weigh(value: &JsonValue, room: usize) -> Option<usize>
+    ensures some { IfSome result (λ left. left + weight (view value.now) ≡ room) }
+    ensures none { result ≡ None → room < weight (view value.now) }
+{
+    let room = room.checked_sub(EACH)?;
+    match value {
+        JsonValue::Short(text) => room.checked_sub(text.as_str().len()),
+        JsonValue::String(text) => room.checked_sub(text.len()),
+        JsonValue::Array(items) => weigh_items(items.iter(), room),
+        JsonValue::Object(object) => weigh_members(object, room),
+        _ => Some(room),
+    }
+}
+
+#[cycle(weigh)]
+#[tactic(auto, using(crate::proofs::WeightSteps::weighing))]
+fn weigh_items(items: slice::Iter<'_, JsonValue>, room: usize) -> Option<usize>
+    ensures some { IfSome result (λ left.
+        left + weight_values (view_values (iter_rest items.entry)) ≡ room) }
+    ensures none { result ≡ None → room < weight_values (view_values (iter_rest items.entry)) }
+{
+    let mut left = room;
+    for item in items {
+        left = weigh(item, left)?;
+    }
+    Some(left)
+}
+
+#[cycle(weigh)]
+#[tactic(auto, using(crate::proofs::WeightSteps::weighing))]
+fn weigh_members(object: &Object, room: usize) -> Option<usize>
+    ensures some { IfSome result (λ left.
+        left + weight_pairs (view_pairs (entries_of object.now)) ≡ room) }
+    ensures none { result ≡ None → room < weight_pairs (view_pairs (entries_of object.now)) }
+{
+    let mut left = room;
+    for (key, value) in object.iter() {
+        left = weigh(value, left.checked_sub(key.len())?)?;
+    }
+    Some(left)
+}
