@@ -5,6 +5,7 @@
 
 pub mod canonical;
 pub mod decode;
+pub mod encode;
 pub mod merge;
 pub mod patch;
 pub mod pointer;

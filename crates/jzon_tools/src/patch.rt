@@ -22,9 +22,12 @@ ghost use Rattle.jzon_tools.specs.declared.patch.Limits.{Limits as Within};
 ghost use Rattle.jzon_tools.specs.declared.patch.Op.TheVariants as ops;
 ghost use Rattle.jzon_tools.specs.declared.pointer.PointerError.TheVariants as pointers;
 
+mod changes;
+
 use crate::pointer::{self, PointerError};
 use crate::shown::ShownPointer;
 use crate::weight::{nests_within, weigh};
+pub use changes::diff;
 use jzon::{JsonValue, io_error};
 use std::alloc::Global;
 use std::io::ErrorKind;

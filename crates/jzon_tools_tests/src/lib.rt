@@ -9,6 +9,8 @@ mod common;
 #[cfg(test)]
 mod decode;
 #[cfg(test)]
+mod encode;
+#[cfg(test)]
 mod examples;
 #[cfg(test)]
 mod merge;

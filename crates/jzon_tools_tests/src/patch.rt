@@ -359,3 +359,30 @@ const SHOWN: &[(Option<usize>, Cause, &str)] = rows! {
     (None, Cause::NotAnArray, "the patch isn't an array")
     (Some(1), Cause::OutOfMemory, "operation 1: /b/0: out of memory")
 };
+
+/// An old value, a new one, and the operations that turn one into the other.
+const DIFFS: &[(&str, &str, &str)] = rows! {
+    ("1", "1.0", "[]")
+    ("1", "2", r#"[{"op":"replace","path":"","value":2}]"#)
+    (r#"{"a":1,"b":2}"#, r#"{"b":2.0,"a":1}"#, "[]")
+    (r#"{"a":1,"b":2}"#, r#"{"b":3,"c":4}"#, r#"[{"op":"remove","path":"/a"},{"op":"replace","path":"/b","value":3},{"op":"add","path":"/c","value":4}]"#)
+    (r#"{"a/~b":{"":{"x":1}}}"#, r#"{"a/~b":{"":{"x":2}}}"#, r#"[{"op":"replace","path":"/a~1~0b//x","value":2}]"#)
+    (r#"{"a":{}}"#, r#"{"a":[]}"#, r#"[{"op":"replace","path":"/a","value":[]}]"#)
+    (r#"{"a":[1,2]}"#, r#"{"a":[1,3]}"#, r#"[{"op":"replace","path":"/a","value":[1,3]}]"#)
+    (r#"{"a":{"b":1}}"#, r#"{}"#, r#"[{"op":"remove","path":"/a"}]"#)
+    (r#"{}"#, r#"{"a":{"b":1}}"#, r#"[{"op":"add","path":"/a","value":{"b":1}}]"#)
+    (r#"{"a":null}"#, r#"{"a":{"b":null}}"#, r#"[{"op":"replace","path":"/a","value":{"b":null}}]"#)
+};
+
+#[test]
+fn turns_one_value_into_another(rt: HostRuntime) -> Tested {
+    for (old, new, operations) in DIFFS {
+        let mut value = jzon::parse(rt.alloc(), old)?;
+        let wanted = jzon::parse(rt.alloc(), new)?;
+        let patch = patch::diff(rt.alloc(), &value, &wanted)?;
+        expect_dump(&rt, &patch, operations);
+        expect(&rt, old, patch::apply(rt.alloc(), &mut value, &patch).is_ok());
+        expect(&rt, old, value == wanted);
+    }
+    Ok(())
+}

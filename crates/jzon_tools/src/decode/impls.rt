@@ -1,15 +1,18 @@
 //! How the types of std are read.
 
-ghost use Rattle.std.specs.Prelude.{◌≡◌, None, Some, string_bytes, true, IfErr, IfOk, MatchOption};
+ghost use Rattle.std.specs.Prelude.{◌≡◌, ◌<◌, ◌^◌, None, Some, string_bytes, true, FitsSigned, IfErr, IfOk, MatchOption};
+ghost use Rattle.std.specs.Int.{w8, w16, w32, w64};
 ghost use Rattle.std.specs.List.{AllZip};
 ghost use Rattle.std.specs.BTreeMap as tree;
 ghost use Rattle.std.specs.HashMap as hash;
-ghost use Rattle.jzon.specs.Readers.{integer_in, is_array, is_object, items, number_in, text_in, truth_in, unsigned_in};
+ghost use Rattle.jzon.specs.Decimal.{SomeWhere};
+ghost use Rattle.jzon.specs.Readers.{is_array, is_object, items, number_in, text_in, truth_in};
 ghost use Rattle.jzon.specs.Value.{null};
 ghost use Rattle.jzon.specs.View.{view};
 ghost use Rattle.jzon_tools.specs.Decode.{IsErrorIn};
 ghost use Rattle.jzon_tools.specs.DecodeExpected.{Refuses};
 ghost use Rattle.jzon_tools.specs.DecodeMaps.{ReadsEntries};
+ghost use Rattle.jzon_tools.specs.Integers.{natural_in, whole_in};
 
 use super::{DecodeError, Expected, Fields, FromJson};
 use jzon::JsonValue;
@@ -72,82 +75,82 @@ impl FromJson for Number {
 }
 
 impl FromJson for u8 {
-    ghost gives = { λ v n. unsigned_in v ≡ Some n };
+    ghost gives = { λ v n. natural_in v ≡ Some n };
 
     fn from_json(alloc: Global, value: &JsonValue) -> Result<u8, DecodeError> {
-        or_wrong(alloc, value, value.as_u8(), Expected::U8)
+        or_wrong(alloc, value, u8_in(value), Expected::U8)
     }
 }
 
 impl FromJson for u16 {
-    ghost gives = { λ v n. unsigned_in v ≡ Some n };
+    ghost gives = { λ v n. natural_in v ≡ Some n };
 
     fn from_json(alloc: Global, value: &JsonValue) -> Result<u16, DecodeError> {
-        or_wrong(alloc, value, value.as_u16(), Expected::U16)
+        or_wrong(alloc, value, u16_in(value), Expected::U16)
     }
 }
 
 impl FromJson for u32 {
-    ghost gives = { λ v n. unsigned_in v ≡ Some n };
+    ghost gives = { λ v n. natural_in v ≡ Some n };
 
     fn from_json(alloc: Global, value: &JsonValue) -> Result<u32, DecodeError> {
-        or_wrong(alloc, value, value.as_u32(), Expected::U32)
+        or_wrong(alloc, value, u32_in(value), Expected::U32)
     }
 }
 
 impl FromJson for u64 {
-    ghost gives = { λ v n. unsigned_in v ≡ Some n };
+    ghost gives = { λ v n. natural_in v ≡ Some n };
 
     fn from_json(alloc: Global, value: &JsonValue) -> Result<u64, DecodeError> {
-        or_wrong(alloc, value, value.as_u64(), Expected::U64)
+        or_wrong(alloc, value, natural(value), Expected::U64)
     }
 }
 
 impl FromJson for usize {
-    ghost gives = { λ v n. unsigned_in v ≡ Some n };
+    ghost gives = { λ v n. natural_in v ≡ Some n };
 
     fn from_json(alloc: Global, value: &JsonValue) -> Result<usize, DecodeError> {
-        or_wrong(alloc, value, value.as_usize(), Expected::U64)
+        or_wrong(alloc, value, usize_in(value), Expected::U64)
     }
 }
 
 impl FromJson for i8 {
-    ghost gives = { λ v n. integer_in v ≡ Some n };
+    ghost gives = { λ v n. whole_in v ≡ Some n };
 
     fn from_json(alloc: Global, value: &JsonValue) -> Result<i8, DecodeError> {
-        or_wrong(alloc, value, value.as_i8(), Expected::I8)
+        or_wrong(alloc, value, i8_in(value), Expected::I8)
     }
 }
 
 impl FromJson for i16 {
-    ghost gives = { λ v n. integer_in v ≡ Some n };
+    ghost gives = { λ v n. whole_in v ≡ Some n };
 
     fn from_json(alloc: Global, value: &JsonValue) -> Result<i16, DecodeError> {
-        or_wrong(alloc, value, value.as_i16(), Expected::I16)
+        or_wrong(alloc, value, i16_in(value), Expected::I16)
     }
 }
 
 impl FromJson for i32 {
-    ghost gives = { λ v n. integer_in v ≡ Some n };
+    ghost gives = { λ v n. whole_in v ≡ Some n };
 
     fn from_json(alloc: Global, value: &JsonValue) -> Result<i32, DecodeError> {
-        or_wrong(alloc, value, value.as_i32(), Expected::I32)
+        or_wrong(alloc, value, i32_in(value), Expected::I32)
     }
 }
 
 impl FromJson for i64 {
-    ghost gives = { λ v n. integer_in v ≡ Some n };
+    ghost gives = { λ v n. whole_in v ≡ Some n };
 
     fn from_json(alloc: Global, value: &JsonValue) -> Result<i64, DecodeError> {
-        or_wrong(alloc, value, value.as_i64(), Expected::I64)
+        or_wrong(alloc, value, whole(value), Expected::I64)
     }
 }
 
 impl FromJson for isize {
-    ghost gives = { λ v n. integer_in v ≡ Some n };
+    ghost gives = { λ v n. whole_in v ≡ Some n };
 
     fn from_json(alloc: Global, value: &JsonValue) -> Result<isize, DecodeError> {
-        or_wrong(alloc, value, value.as_isize(), Expected::I64)
+        or_wrong(alloc, value, isize_in(value), Expected::I64)
     }
 }
 
@@ -210,4 +213,69 @@ impl<T: FromJson> FromJson for HashMap<String, T> {
         }
         Ok(map)
     }
+}
+
+/// The integer that a number is, however it is written, if it fits: 100 of `1e2` and `100.0`.
+fn whole(value: &JsonValue) -> Option<i64>
+    ensures { SomeWhere (whole_in (view value.now)) (FitsSigned w64) result }
+{
+    value.as_exact_fixed_point_i64(0)
+}
+
+/// The same, if it isn't below 0. It is 0 of `-0` too.
+fn natural(value: &JsonValue) -> Option<u64>
+    ensures { SomeWhere (natural_in (view value.now)) (λ n. n < 2 ^ 64) result }
+{
+    if let Some(integer) = value.as_exact_fixed_point_u64(0) {
+        return Some(integer);
+    }
+    if whole(value)? == 0 { Some(0) } else { None }
+}
+
+fn u8_in(value: &JsonValue) -> Option<u8>
+    ensures { SomeWhere (natural_in (view value.now)) (λ n. n < 2 ^ 8) result }
+{
+    u8::try_from(natural(value)?).ok()
+}
+
+fn u16_in(value: &JsonValue) -> Option<u16>
+    ensures { SomeWhere (natural_in (view value.now)) (λ n. n < 2 ^ 16) result }
+{
+    u16::try_from(natural(value)?).ok()
+}
+
+fn u32_in(value: &JsonValue) -> Option<u32>
+    ensures { SomeWhere (natural_in (view value.now)) (λ n. n < 2 ^ 32) result }
+{
+    u32::try_from(natural(value)?).ok()
+}
+
+fn usize_in(value: &JsonValue) -> Option<usize>
+    ensures { SomeWhere (natural_in (view value.now)) (λ n. n < 2 ^ 64) result }
+{
+    usize::try_from(natural(value)?).ok()
+}
+
+fn i8_in(value: &JsonValue) -> Option<i8>
+    ensures { SomeWhere (whole_in (view value.now)) (FitsSigned w8) result }
+{
+    i8::try_from(whole(value)?).ok()
+}
+
+fn i16_in(value: &JsonValue) -> Option<i16>
+    ensures { SomeWhere (whole_in (view value.now)) (FitsSigned w16) result }
+{
+    i16::try_from(whole(value)?).ok()
+}
+
+fn i32_in(value: &JsonValue) -> Option<i32>
+    ensures { SomeWhere (whole_in (view value.now)) (FitsSigned w32) result }
+{
+    i32::try_from(whole(value)?).ok()
+}
+
+fn isize_in(value: &JsonValue) -> Option<isize>
+    ensures { SomeWhere (whole_in (view value.now)) (FitsSigned w64) result }
+{
+    isize::try_from(whole(value)?).ok()
 }
