@@ -71,7 +71,7 @@ fn main(rt: HostRuntime) -> io::Result<ExitCode> {
         }
         Err(error) => {
             eprintln!(rt; "settings: {error}")?;
-            if let Some(place) = place_of(&error) {
+            if let Some(place) = error.place {
                 eprintln!(rt; "{}", faulty_line(alloc, text.as_str(), place)?)?;
             }
             Ok(ExitCode::FAILURE)
@@ -106,14 +106,6 @@ fn in_effect(alloc: Global, settings: &Settings, options: Options) -> jzon::Resu
         servers.push(alloc, server)?;
     }
     Ok(jzon::object! {alloc; port: port, timeout: settings.timeout, servers: servers})
-}
-
-/// Where the text is wrong, if it is.
-fn place_of(error: &DecodeError) -> Option<Place> {
-    match error {
-        DecodeError::Text(located) => located.place,
-        _ => None,
-    }
 }
 
 /// The line of the place, or 80 characters of a long one, with a caret below the place.

@@ -1,6 +1,6 @@
 -- What an error of a reading says of the value that was read: by `value_at` of specs/Pointer.antt its pointer names the
 -- value that isn't what was expected, or an object and a key.
-use Rattle.std.specs.Prelude.{◌≡◌, ⊤, ℕ, Option, List, [], ◌∷◌, ◌++◌, false, true, map, None, Some, Ok, chars, string_bytes}
+use Rattle.std.specs.Prelude.{◌≡◌, ⊤, ℕ, Bool, IfSome, Option, List, [], ◌∷◌, ◌++◌, false, true, map, None, Some, Ok, chars, string_bytes}
 use Rattle.std.specs.Option.{is_some}
 use Rattle.std.specs.declared.alloc.Global.{Global}
 use Rattle.std.specs.declared.string.String.{String}
@@ -19,9 +19,11 @@ use Rattle.jzon.specs.declared.place.Place.{Place}
 use Rattle.jzon_tools.specs.DecodeFound.{FoundIs, shows_value}
 use Rattle.jzon_tools.specs.DecodeExpected.{Refuses}
 use Rattle.jzon_tools.specs.Escaped.{escaped}
+use Rattle.jzon_tools.specs.Locate.{IsPlaceIn}
 use Rattle.jzon_tools.specs.Pointer.{value_at}
 use Rattle.jzon_tools.specs.Redact.{is_among}
 use Rattle.jzon_tools.specs.declared.decode.error.DecodeError.{DecodeError}
+use Rattle.jzon_tools.specs.declared.decode.located.LocatedDecodeError.{LocatedDecodeError}
 use Rattle.jzon_tools.specs.declared.decode.error.DecodeError.TheVariants.{Text, OutOfMemory, Wrong, Missing, Unknown}
 
 -- the pointer leads to an object, and then to a key for which this holds
@@ -48,6 +50,21 @@ abbrev pub IsErrorOfText : Reading → List ℕ → DecodeError → Type 0
 IsErrorOfText r bytes (Text l) = (p : Place) × (l.place ≡ Some p) × IsErrorAt r bytes l.error p
 IsErrorOfText r bytes OutOfMemory = ⊤
 IsErrorOfText r bytes e = MeansSome r (chars bytes) (λ v. IsErrorIn v e)
+
+-- where an error in a value is in the text with these bytes: that of the text's own error is given by it
+abbrev pub IsPlacedIn : List ℕ → DecodeError → Option Place → Type 0
+IsPlacedIn bytes (Text l) place = place ≡ l.place
+IsPlacedIn bytes OutOfMemory place = place ≡ None
+IsPlacedIn bytes e place = IfSome place (IsPlaceIn bytes)
+
+-- an error of a reading of the text, and its place
+abbrev pub IsLocatedIn : Reading → List ℕ → LocatedDecodeError → Type 0
+IsLocatedIn r bytes l = IsErrorOfText r bytes l.error × IsPlacedIn bytes l.error l.place
+
+-- whether it is an error of the text itself
+abbrev pub is_of_text : DecodeError → Bool
+is_of_text (Text l) = true
+is_of_text e = false
 
 -- the pointer of an error
 abbrev pub pointer_of : DecodeError → List ℕ
@@ -82,3 +99,7 @@ located_error l = error_at_place l.error l.place
 -- the error of an error without a place
 abbrev pub error_of : Error → DecodeError
 error_of e = error_at_place e None
+
+-- the error of a text's error, with its place
+abbrev pub located_decode_error : LocatedError → LocatedDecodeError
+located_decode_error l = record { error = located_error l; place = l.place }

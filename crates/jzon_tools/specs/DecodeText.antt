@@ -1,5 +1,5 @@
 -- What `Display` shows of an error of a reading, and its kind as an `io::Error` (docs/TOOLS.md).
-use Rattle.std.specs.Prelude.{ℕ, List, [], ◌∷◌, ◌++◌, ◌==◌, if◌then◌else◌}
+use Rattle.std.specs.Prelude.{ℕ, List, [], ◌∷◌, ◌++◌, Option, Some, Bool, false, ◌==◌, if◌then◌else◌}
 use Rattle.std.specs.Prelude.{codes, decimal, flat_map, length, map, string_bytes}
 use Rattle.std.specs.declared.io.ErrorKind.{ErrorKind}
 use Rattle.std.specs.declared.io.ErrorKind.TheVariants as kind
@@ -7,13 +7,16 @@ use Rattle.jzon.specs.Error.{Error}
 use Rattle.jzon.specs.Error.TheVariants.{UnexpectedCharacter}
 use Rattle.jzon.specs.ErrorText.{io_kind}
 use Rattle.jzon.specs.ErrorText.{place_text as position_text}
+use Rattle.jzon.specs.declared.located.Place.{Place}
 use Rattle.jzon.specs.Located.{located_text}
 use Rattle.jzon.specs.NumberText.{decimal_text}
 use Rattle.jzon.specs.declared.located.LocatedError.{LocatedError}
 use Rattle.jzon.specs.Text.{boolean_text}
+use Rattle.jzon_tools.specs.Decode.{is_of_text}
 use Rattle.jzon_tools.specs.ErrorTexts.{primitive_text}
 use Rattle.jzon_tools.specs.Shown.{pointer_shown, shown_char, shown_text}
 use Rattle.jzon_tools.specs.declared.decode.error.DecodeError.{DecodeError}
+use Rattle.jzon_tools.specs.declared.decode.located.LocatedDecodeError.{LocatedDecodeError}
 use Rattle.jzon_tools.specs.declared.decode.error.DecodeError.TheVariants as error
 use Rattle.jzon_tools.specs.declared.decode.error.Expected.{Expected}
 use Rattle.jzon_tools.specs.declared.decode.error.Expected.TheVariants as expected
@@ -85,6 +88,15 @@ decode_error_text (error.Missing p e) =
     pointer_shown (string_bytes p) ++ (codes ": missing, expected " ++ expected_text e)
 decode_error_text (error.Unknown p known) =
     pointer_shown (string_bytes p) ++ (codes ": unknown key, expected " ++ names_text (map (λ n. n.now) known.now))
+
+-- the place after the words of an error that don't have it
+abbrev pub place_after : Option Place → Bool → List ℕ
+place_after (Some p) false = codes " at " ++ position_text p.line p.column
+place_after _ _ = codes ""
+
+-- the error with its place
+abbrev pub located_decode_text : LocatedDecodeError → List ℕ
+located_decode_text l = decode_error_text l.error ++ place_after l.place (is_of_text l.error)
 
 -- the kind of the `io::Error` that it becomes
 abbrev pub decode_error_kind : DecodeError → ErrorKind

@@ -7,17 +7,19 @@
 ghost use Rattle.std.specs.Prelude.{chars, IfOk, IfErr};
 ghost use Rattle.jzon.specs.Value.{Value};
 ghost use Rattle.jzon.specs.View.{view};
-ghost use Rattle.jzon_tools.specs.Decode.{IsErrorIn, IsErrorOfText, MeansSome};
+ghost use Rattle.jzon_tools.specs.Decode.{IsErrorIn, IsLocatedIn, MeansSome};
 ghost use Rattle.jzon_tools.specs.Canonical.{strict_exact};
 
 mod error;
 mod fields;
 mod impls;
+mod located;
 mod path;
 
 pub use error::{DecodeError, Expected, Found, Known, LONGEST};
 pub use fields::Fields;
 use jzon::{JsonValue, Reading, parse_located};
+pub use located::LocatedDecodeError;
 use std::alloc::Global;
 use std::result::Result;
 
@@ -46,10 +48,10 @@ pub trait FromJson: Drop {
 }
 
 /// The value that a text means, as this type. The text is read strictly and exactly: a repeated key,
-/// and a number that a `Number` can't have exactly, are errors with line and column.
-pub fn from_text<T: FromJson>(alloc: Global, text: &str) -> Result<T, DecodeError>
+/// and a number that a `Number` can't have exactly, are errors. Each error has its line and column.
+pub fn from_text<T: FromJson>(alloc: Global, text: &str) -> Result<T, LocatedDecodeError>
     ensures value { IfOk result (λ x. MeansSome strict_exact (chars text.now) (λ v. T.gives v x)) }
-    ensures error { IfErr result (IsErrorOfText strict_exact text.now) }
+    ensures error { IfErr result (IsLocatedIn strict_exact text.now) }
 {
     from_text_as(alloc, text, &Reading::STRICT.with_exact_numbers())
 }
@@ -59,10 +61,13 @@ pub fn from_text_as<T: FromJson>(
     alloc: Global,
     text: &str,
     reading: &Reading,
-) -> Result<T, DecodeError>
+) -> Result<T, LocatedDecodeError>
     ensures value { IfOk result (λ x. MeansSome reading.now (chars text.now) (λ v. T.gives v x)) }
-    ensures error { IfErr result (IsErrorOfText reading.now text.now) }
+    ensures error { IfErr result (IsLocatedIn reading.now text.now) }
 {
     let value = parse_located(alloc, text, reading)?;
-    T::from_json(alloc, &value)
+    match T::from_json(alloc, &value) {
+        Ok(read) => Ok(read),
+        Err(error) => Err(error.in_text(alloc, text, reading)),
+    }
 }

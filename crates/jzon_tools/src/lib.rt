@@ -6,6 +6,7 @@
 pub mod canonical;
 pub mod decode;
 pub mod encode;
+pub mod locate;
 pub mod merge;
 pub mod patch;
 pub mod pointer;

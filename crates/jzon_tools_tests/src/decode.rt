@@ -286,7 +286,7 @@ fn hides_values(rt: HostRuntime) -> Tested {
 fn cuts_long_pointers(rt: HostRuntime) -> Tested {
     let alloc = rt.alloc();
     let text = joined(alloc, &[("{\"", 1), ("a", 150), ("b", 150), ("\":1}", 1)])?;
-    let known = ": unknown key, expected name, small, cents, lists, price, a/b~c";
+    let known = ": unknown key, expected name, small, cents, lists, price, a/b~c at (1:2)";
     let want = joined(
         alloc,
         &[("/", 1), ("a", 99), ("..", 1), ("b", 100), (known, 1)],
@@ -307,7 +307,10 @@ fn names_the_last_of_many(rt: HostRuntime) -> Tested {
     let text = joined(alloc, &[("[", 1), ("0,", 9999), ("256]", 1)])?;
     match decode::from_text::<Vec<u8>>(alloc, text.as_str()) {
         Ok(_read) => expect(&rt, "256", false),
-        Err(error) => expect_eq(&rt, "256", error.pointer(), "/9999"),
+        Err(error) => {
+            expect_eq(&rt, "256", error.error.pointer(), "/9999");
+            expect_eq(&rt, "256", error.place.map(|place| place.offset), Some(19_999));
+        }
     }
     Ok(())
 }

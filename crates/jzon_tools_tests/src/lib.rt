@@ -13,6 +13,8 @@ mod encode;
 #[cfg(test)]
 mod examples;
 #[cfg(test)]
+mod locate;
+#[cfg(test)]
 mod merge;
 #[cfg(test)]
 mod patch;

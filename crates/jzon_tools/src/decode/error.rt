@@ -210,6 +210,16 @@ impl DecodeError {
         }
     }
 
+    pub(super) fn io_kind(&self) -> ErrorKind
+        ensures { result ≡ decode_error_kind self.now }
+    {
+        match self {
+            DecodeError::Text(located) => located.error.io_kind(),
+            DecodeError::OutOfMemory => ErrorKind::OutOfMemory,
+            _ => ErrorKind::InvalidData,
+        }
+    }
+
     /// With another pointer.
     fn moved(self, to: String) -> DecodeError
         ensures { result ≡ moved_to self to }
@@ -426,11 +436,6 @@ impl From<DecodeError> for io::Error {
     ghost from_gives = { λ e i. error_kind i ≡ decode_error_kind e };
 
     fn from(error: DecodeError) -> io::Error {
-        let kind = match &error {
-            DecodeError::Text(located) => located.error.io_kind(),
-            DecodeError::OutOfMemory => ErrorKind::OutOfMemory,
-            _ => ErrorKind::InvalidData,
-        };
-        io_error(kind, &error)
+        io_error(error.io_kind(), &error)
     }
 }
