@@ -2,7 +2,7 @@
 #![tactic(auto)]
 
 use jzon::JsonValue;
-use jzon_tools::decode::{self, DecodeError, Fields, FromJson};
+use jzon_typed::decode::{self, DecodeError, Fields, FromJson};
 use std::alloc::Global;
 use std::collections::BTreeMap;
 use std::io;

@@ -4,7 +4,7 @@
 #![tactic(auto)]
 
 use jzon::{JsonValue, Place};
-use jzon_tools::decode::{self, DecodeError, Fields, FromJson};
+use jzon_typed::decode::{self, DecodeError, Fields, FromJson};
 use std::alloc::Global;
 use std::process::ExitCode;
 use std::{env, io};

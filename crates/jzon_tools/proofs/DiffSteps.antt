@@ -20,14 +20,14 @@ use Rattle.jzon.specs.Value.{Value, null, boolean, text, number, array, object, 
 use Rattle.jzon.proofs.PairLaws.{bytes_eq-other, find-put_same, find-put_other, find-cut_same, find-cut_other, distinct-put, distinct-cut}
 use Rattle.jzon.proofs.ValueLaws.{find-viewed, list_of_values-values_of, list_of_pairs-pairs_of}
 use Rattle.jzon_tools.specs.Diff.{value_below, TurnsAt, AddsChanges, ChangesMember, AddsMember, IsBelow, Replaces, Adds, Removes, TurnsInto}
-use Rattle.jzon_tools.specs.Escaped.{escaped}
+use Rattle.jzon_pointer.specs.Escaped.{escaped}
 use Rattle.jzon_tools.specs.Patch.{applied, applied_each, added_at, operated}
-use Rattle.jzon_tools.specs.Redact.{is_among}
-use Rattle.jzon_tools.specs.Pointer.{index_named, token_key, child_of, tokens_of, with_child, updated, updated_at, changed, with_new, without, inserted_at, removed_at}
+use Rattle.jzon_pointer.specs.Names.{is_among}
+use Rattle.jzon_pointer.specs.Pointer.{index_named, token_key, child_of, tokens_of, with_child, updated, updated_at, changed, with_new, without, inserted_at, removed_at}
 use Rattle.jzon_tools.proofs.SortedEntries.{apart-sym}
-use Rattle.jzon_tools.proofs.ChangeLaws.{with_child-same}
-use Rattle.jzon_tools.proofs.DecodeSteps.{key-child}
-use Rattle.jzon_tools.proofs.EscapedSteps.{pushed-tokens, token_key-escaped}
+use Rattle.jzon_pointer.proofs.ChangeLaws.{with_child-same}
+use Rattle.jzon_pointer.proofs.ChildSteps.{key-child}
+use Rattle.jzon_pointer.proofs.EscapedSteps.{pushed-tokens, token_key-escaped}
 
 -- ---- a child that is put twice
 
@@ -275,9 +275,12 @@ turns-changed : (f : Value → List ℕ → Option Value) (path : List ℕ) (ts 
     → tokens_of path ≡ Some (ts ++ t ∷ []) → ((d : Value) → operated op d ≡ option_and_then (changed f d) (tokens_of path))
     → f u t ≡ Some w → TurnsAt ts (op ∷ []) u w
 turns-changed f path ts t op u w tokens is at = λ d h.
-    let e = updated-some ts d u w h in
-    (e.0, one op d e.0 (is d ∙ ap (option_and_then (changed f d)) tokens ∙ changed-last f ts d u t h
-    ∙ ap (λ o. updated (λ _. o) d ts) at ∙ e.1), e.1)
+    let e = updated-some ts d u w h in (
+      e.0,
+      one op d e.0 (is d ∙ ap (option_and_then (changed f d)) tokens ∙ changed-last f ts d u t h
+          ∙ ap (λ o. updated (λ _. o) d ts) at ∙ e.1),
+      e.1,
+    )
 
 added-below : (w v : Value) (path t : List ℕ) → added_at w v (path ++ 47 ∷ t) ≡ inserted_at w v (path ++ 47 ∷ t)
 added-below w v [] t = refl
@@ -315,42 +318,65 @@ key-cut k qs a h =
 pub member-changed : (path k place : List ℕ) (old new : Pairs) (a b : Value) (before after : List Value)
     → find k old ≡ Some a → find k new ≡ Some b → IsBelow path k place → AddsChanges place a b before after
     → AddsMember path k old new before after
-member-changed path k place old new a b before after there wanted below (ops, is, turns) = (ops, is, λ ts tokens qs distinct at.
-    let t = turns (ts ++ escaped k ∷ []) (below.1 ts tokens) in (
-      put k t.0 qs,
-      distinct-put k t.0 qs distinct,
-      ap (λ o. same_at o (find k new)) (find-put_same k t.0 qs) ∙ ap (same_at (Some t.0)) wanted ∙ t.1,
-      λ j apart. find-put_other j k t.0 qs apart,
-      subst (λ v. TurnsAt ts ops (O qs) v) (key-put k qs t.0)
-          (turns-child ts (escaped k) ops (O qs) a t.0 (key-there k qs a (at ∙ there)) t.2),
-    ))
+member-changed path k place old new a b before after there wanted below (ops, is, turns) = (
+  ops,
+  is,
+  λ ts tokens qs distinct at.
+      let t = turns (ts ++ escaped k ∷ []) (below.1 ts tokens) in (
+        put k t.0 qs,
+        distinct-put k t.0 qs distinct,
+        ap (λ o. same_at o (find k new)) (find-put_same k t.0 qs) ∙ ap (same_at (Some t.0)) wanted ∙ t.1,
+        λ j apart. find-put_other j k t.0 qs apart,
+        subst (λ v. TurnsAt ts ops (O qs) v) (key-put k qs t.0)
+            (turns-child ts (escaped k) ops (O qs) a t.0 (key-there k qs a (at ∙ there)) t.2),
+      ),
+)
 
 -- nothing is done
 pub member-kept : (path k : List ℕ) (old new : Pairs) (before after : List Value) → same_at (find k old) (find k new) ≡ true
     → after ≡ before → AddsMember path k old new before after
-member-kept path k old new before after equal is = ([], is ∙ sym (append-nil before), λ ts tokens qs distinct at. (
-  qs, distinct, ap (λ o. same_at o (find k new)) at ∙ equal, λ j apart. refl, turns-none ts (O qs)))
+member-kept path k old new before after equal is = (
+  [],
+  is ∙ sym (append-nil before),
+  λ ts tokens qs distinct at. (
+    qs,
+    distinct,
+    ap (λ o. same_at o (find k new)) at ∙ equal,
+    λ j apart. refl,
+    turns-none ts (O qs),
+  ),
+)
 
 pub member-added : (path k : List ℕ) (old new : Pairs) (b op : Value) (before after : List Value)
     → find k new ≡ Some b → Adds path k b op → after ≡ before ++ op ∷ [] → AddsMember path k old new before after
-member-added path k old new b op before after wanted adds is = (op ∷ [], is, λ ts tokens qs distinct at. (
-  put k b qs,
-  distinct-put k b qs distinct,
-  ap (λ o. same_at o (find k new)) (find-put_same k b qs) ∙ ap (same_at (Some b)) wanted ∙ same_equiv.refl b,
-  λ j apart. find-put_other j k b qs apart,
-  turns-changed (with_new b) (path ++ 47 ∷ escaped k) ts (escaped k) op (O qs) (O (put k b qs)) (pushed-tokens path (path ++ 47 ∷ escaped k) k ts refl tokens)
-      (λ d. adds d ∙ added-below b d path (escaped k)) (key-new k qs b)))
+member-added path k old new b op before after wanted adds is = (
+  op ∷ [],
+  is,
+  λ ts tokens qs distinct at. (
+    put k b qs,
+    distinct-put k b qs distinct,
+    ap (λ o. same_at o (find k new)) (find-put_same k b qs) ∙ ap (same_at (Some b)) wanted ∙ same_equiv.refl b,
+    λ j apart. find-put_other j k b qs apart,
+    turns-changed (with_new b) (path ++ 47 ∷ escaped k) ts (escaped k) op (O qs) (O (put k b qs)) (pushed-tokens path (path ++ 47 ∷ escaped k) k ts refl tokens)
+        (λ d. adds d ∙ added-below b d path (escaped k)) (key-new k qs b),
+  ),
+)
 
 pub member-removed : (path k : List ℕ) (old new : Pairs) (a op : Value) (before after : List Value)
     → find k old ≡ Some a → find k new ≡ None → Removes path k op → after ≡ before ++ op ∷ []
     → AddsMember path k old new before after
-member-removed path k old new a op before after there unwanted removes is = (op ∷ [], is, λ ts tokens qs distinct at. (
-  cut k qs,
-  distinct-cut k qs distinct,
-  ap (λ o. same_at o (find k new)) (find-cut_same k qs distinct) ∙ ap (same_at None) unwanted,
-  λ j apart. find-cut_other j k qs apart,
-  turns-changed without (path ++ 47 ∷ escaped k) ts (escaped k) op (O qs) (O (cut k qs)) (pushed-tokens path (path ++ 47 ∷ escaped k) k ts refl tokens)
-      removes (key-cut k qs a (at ∙ there))))
+member-removed path k old new a op before after there unwanted removes is = (
+  op ∷ [],
+  is,
+  λ ts tokens qs distinct at. (
+    cut k qs,
+    distinct-cut k qs distinct,
+    ap (λ o. same_at o (find k new)) (find-cut_same k qs distinct) ∙ ap (same_at None) unwanted,
+    λ j apart. find-cut_other j k qs apart,
+    turns-changed without (path ++ 47 ∷ escaped k) ts (escaped k) op (O qs) (O (cut k qs)) (pushed-tokens path (path ++ 47 ∷ escaped k) k ts refl tokens)
+        removes (key-cut k qs a (at ∙ there)),
+  ),
+)
 
 -- ---- one entry after the other: those of the keys that are pending are as they were, and the others as they shall be
 
@@ -367,18 +393,35 @@ same-by o old new false f g h = h refl
 
 pub progress-start : (path : List ℕ) (old new : Pairs) (P : List ℕ → Bool) (before : List Value)
     → AllPairs (λ i j. i ≢ j) (keys_of old) → ((k : List ℕ) → P k ≡ true) → Progress path old new P before before
-progress-start path old new P before distinct all = ([], sym (append-nil before), λ ts tokens. (
-  old, distinct, λ k h. refl, λ k h. absurd (false≢true (sym h ∙ all k)), turns-none ts (O old)))
+progress-start path old new P before distinct all = (
+  [],
+  sym (append-nil before),
+  λ ts tokens. (
+    old,
+    distinct,
+    λ k h. refl,
+    λ k h. absurd (false≢true (sym h ∙ all k)),
+    turns-none ts (O old),
+  ),
+)
 
 -- fewer are pending, since those that aren't need no change
 pub progress-fewer : (path : List ℕ) (old new : Pairs) (P Q : List ℕ → Bool) (before after : List Value)
     → ((k : List ℕ) → Q k ≡ true → P k ≡ true)
     → ((k : List ℕ) → Q k ≡ false → P k ≡ true → same_at (find k old) (find k new) ≡ true)
     → Progress path old new P before after → Progress path old new Q before after
-progress-fewer path old new P Q before after less equal (ops, is, turns) = (ops, is, λ ts tokens.
-    let t = turns ts tokens in (
-      t.0, t.1, λ k h. t.2 k (less k h),
-      λ k h. same-by (find k t.0) (find k old) (find k new) (P k) (equal k h) (t.2 k) (t.3 k), t.4))
+progress-fewer path old new P Q before after less equal (ops, is, turns) = (
+  ops,
+  is,
+  λ ts tokens.
+      let t = turns ts tokens in (
+        t.0,
+        t.1,
+        λ k h. t.2 k (less k h),
+        λ k h. same-by (find k t.0) (find k old) (find k new) (P k) (equal k h) (t.2 k) (t.3 k),
+        t.4,
+      ),
+)
 
 apart-by : (j k : List ℕ) → bytes_eq j k ≡ false → j ≢ k
 apart-by j k e = λ same. false≢true (sym e ∙ (bytes_eq-Decides j k).1 same)
@@ -396,24 +439,34 @@ pub progress-next : (path key : List ℕ) (old new : Pairs) (P Q : List ℕ → 
     → ((k : List ℕ) → Q k ≡ false → k ≢ key → P k ≡ false) → Progress path old new P before mid
     → AddsMember path key old new mid after → Progress path old new Q before after
 progress-next path key old new P Q before mid after pending less rest (xs, is, turns) (ys, next, changes) = (
-  xs ++ ys, next ∙ ap (λ l. l ++ ys) is ∙ append_assoc before xs ys, λ ts tokens.
+  xs ++ ys,
+  next ∙ ap (λ l. l ++ ys) is ∙ append_assoc before xs ys,
+  λ ts tokens.
       let t = turns ts tokens in
       let c = changes ts tokens t.0 t.1 (t.2 key pending) in (
-        c.0, c.1,
+        c.0,
+        c.1,
         λ k h. c.3 k (less k h).1 ∙ t.2 k (less k h).0,
         λ k h. here-by c.0 new key k (bytes_eq k key) refl c.2
             (λ apart. ap (λ o. same_at o (find k new)) (c.3 k apart) ∙ t.3 k (rest k h apart)),
-        turns-both ts xs ys (O old) (O t.0) (O c.0) t.4 c.4))
+        turns-both ts xs ys (O old) (O t.0) (O c.0) t.4 c.4,
+      ),
+)
 
 pub progress-end : (path : List ℕ) (old new : Pairs) (P : List ℕ → Bool) (before after : List Value)
     → ((k : List ℕ) → P k ≡ false) → Progress path old new P before after → AddsChanges path (O old) (O new) before after
-progress-end path old new P before after none (ops, is, turns) = (ops, is, λ ts tokens.
-    let t = turns ts tokens in (
-      O t.0,
-      object-intro (pairs_of t.0) (pairs_of new) (λ k.
-      ap (λ l. same_at (find k l) (find k (list_of_pairs (pairs_of new)))) (list_of_pairs-pairs_of t.0)
-      ∙ ap (λ l. same_at (find k t.0) (find k l)) (list_of_pairs-pairs_of new) ∙ t.3 k (none k)),
-      t.4))
+progress-end path old new P before after none (ops, is, turns) = (
+  ops,
+  is,
+  λ ts tokens.
+      let t = turns ts tokens in (
+        O t.0,
+        object-intro (pairs_of t.0) (pairs_of new) (λ k.
+            ap (λ l. same_at (find k l) (find k (list_of_pairs (pairs_of new)))) (list_of_pairs-pairs_of t.0)
+            ∙ ap (λ l. same_at (find k t.0) (find k l)) (list_of_pairs-pairs_of new) ∙ t.3 k (none k)),
+        t.4,
+      ),
+)
 
 -- ---- the keys of the old entries, and then those of the new ones that aren't among them
 
@@ -489,6 +542,7 @@ less-pending key rest old apart there k h = (
     by : (b : Bool) → ((b || is_among rest k) || not (is_some (find k old))) ≡ true
     by true = refl
     by false = h
+
     done : k ≡ key → pending rest old k ≡ false
     done same = ap (pending rest old) same
         ∙ rw (not_again_by key rest (IsDistinct-head bytes_eq key rest apart)) (not-false (is_some (find key old)) there)
@@ -634,8 +688,12 @@ changes-none path u v before after equal is = ([], is ∙ sym (append-nil before
 
 pub changes-replaced : (path : List ℕ) (u v op : Value) (before after : List Value) → Replaces path v op
     → after ≡ before ++ op ∷ [] → AddsChanges path u v before after
-changes-replaced path u v op before after replaces is = (op ∷ [], is, λ ts tokens.
-    (v, same_equiv.refl v, turns-replaced path ts op u v tokens replaces))
+changes-replaced path u v op before after replaces is = (
+  op ∷ [],
+  is,
+  λ ts tokens.
+      (v, same_equiv.refl v, turns-replaced path ts op u v tokens replaces),
+)
 
 pub objects-empty : (ps qs : List (List ℕ × JsonValue)) → length ps ≡ 0 → length qs ≡ 0
     → same (object (view_pairs ps)) (object (view_pairs qs)) ≡ true

@@ -14,8 +14,8 @@ use Rattle.jzon.specs.PairList.{find, put, cut}
 use Rattle.jzon.specs.Value.{Value, ValuePairs, null, boolean, text, number, array, object, values_of, pairs_of, list_of_values, list_of_pairs}
 use Rattle.jzon.specs.View.{view, viewed, view_object}
 use Rattle.jzon.proofs.ValueLaws.{list_of_pairs-pairs_of, viewed-put, viewed-cut, find-viewed, list_of_values-values_of}
-use Rattle.jzon_tools.specs.Pointer.{index_named, token_key, child_of, new_index, with_new, without}
-use Rattle.jzon_tools.proofs.PlaceSteps.{array_seen}
+use Rattle.jzon_pointer.specs.Pointer.{index_named, token_key, child_of, new_index, with_new, without}
+use Rattle.jzon_pointer.proofs.PlaceSteps.{array_seen}
 
 module _ {X Y : Type 0} (f : X → Y) where
   map-insert : (xs : List X) (i : ℕ) (y : X) → map f (insert xs i y) ≡ insert (map f xs) i (f y)

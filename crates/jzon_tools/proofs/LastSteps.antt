@@ -2,12 +2,12 @@
 use Rattle.std.proofs.Common.{◌≡◌, ℕ, List, [], ◌∷◌, ◌++◌, None, Some, option_and_then, Ok, Err, IsErr}
 use Rattle.std.proofs.Common.{get_or, refl, sym, ap, ◌∙◌, subst, arith}
 use Rattle.jzon.specs.Value.{Value}
-use Rattle.jzon_tools.specs.Pointer.{tokens_of, child_of, found, value_at, entry_at, changed, with_new, inserted_at, without, removed_at, ChangesAt, IsLast, LacksAt}
-use Rattle.jzon_tools.specs.declared.pointer.PointerError.{PointerError}
-use Rattle.jzon_tools.proofs.ChangeLaws.{changes-kept, changed-some, changed-none, changed-lacks, found-child, lacks-last, lacks-child}
+use Rattle.jzon_pointer.specs.Pointer.{tokens_of, child_of, found, value_at, entry_at, changed, with_new, inserted_at, without, removed_at, ChangesAt, IsLast, LacksAt}
+use Rattle.jzon_pointer.specs.declared.pointer.PointerError.{PointerError}
+use Rattle.jzon_pointer.proofs.ChangeLaws.{changes-kept, changed-some, changed-none, changed-lacks, found-child, lacks-last, lacks-child}
 use Rattle.jzon_tools.proofs.EditSteps.{no_new-no_child}
-use Rattle.jzon_tools.proofs.PlaceSteps.{value-of-tokens}
-use Rattle.jzon_tools.proofs.TokenSteps.{Lacks, tokens-parent, no_slash}
+use Rattle.jzon_pointer.proofs.PlaceSteps.{value-of-tokens}
+use Rattle.jzon_pointer.proofs.TokenSteps.{Lacks, tokens-parent, no_slash}
 
 entry-value : (v : Value) (xs ys : List ℕ) → entry_at v (xs ++ 47 ∷ ys) ≡ value_at v (xs ++ 47 ∷ ys)
 entry-value v [] ys = refl

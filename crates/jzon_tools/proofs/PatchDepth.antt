@@ -12,7 +12,7 @@ use Rattle.jzon.specs.Same.{same}
 use Rattle.jzon.specs.Value.{Value, Values, ValuePairs, null, boolean, text, number, array, object, list_of_values, list_of_pairs, values_of, pairs_of, nest}
 use Rattle.jzon.proofs.KeptByChanges.{NestsBelow, nests, nest-with_entry, nest-without_entry, nest-without_item, nest-item, nest-found}
 use Rattle.jzon.proofs.ValueLaws.{values_of-list_of_values, pairs_of-list_of_pairs}
-use Rattle.jzon_tools.specs.Pointer.{index_named, token_key, child_of, with_child, with_new, new_index, without, updated, updated_at, changed, inserted_at, removed_at, tokens_of, tokens_in, tokens_after}
+use Rattle.jzon_pointer.specs.Pointer.{index_named, token_key, child_of, with_child, with_new, new_index, without, updated, updated_at, changed, inserted_at, removed_at, tokens_of, tokens_in, tokens_after}
 use Rattle.jzon_tools.specs.Patch.{value_of, entry_of, added_at, moved_at, is_below, tested_at, operand, op_of, operated, operated_by, text_at, slashes, depth_by, depth_in}
 use Rattle.jzon_tools.specs.declared.patch.Op.{Op}
 use Rattle.jzon_tools.specs.declared.patch.Op.TheVariants.{Add, Remove, Replace, Move, Copy, Test}

@@ -6,9 +6,9 @@ use Rattle.jzon.specs.PairList.{find, cut}
 use Rattle.std.proofs.Common.{slice_get}
 use Rattle.std.specs.List.{remove}
 use Rattle.jzon.specs.Value.{Value, null, boolean, text, number, array, object, values_of, pairs_of, list_of_values, list_of_pairs}
-use Rattle.jzon_tools.specs.Pointer.{index_named, token_key, child_of, with_child, missing, tokens_of, found, and_then, value_at, entry_at, updated, updated_at, changed, without, removed_at}
-use Rattle.jzon_tools.specs.declared.pointer.PointerError.{PointerError}
-use Rattle.jzon_tools.specs.declared.pointer.PointerError.TheVariants.{NoSlash}
+use Rattle.jzon_pointer.specs.Pointer.{index_named, token_key, child_of, with_child, missing, tokens_of, found, and_then, value_at, entry_at, updated, updated_at, changed, without, removed_at}
+use Rattle.jzon_pointer.specs.declared.pointer.PointerError.{PointerError}
+use Rattle.jzon_pointer.specs.declared.pointer.PointerError.TheVariants.{NoSlash}
 
 updated-missing_by : (f : Value → Option Value) (o : Option Value) (j : ℕ) (v : Value) (t : List ℕ) (ts : List (List ℕ))
     (x e : PointerError) → ((c : Value) → found j c ts ≡ Err e → updated f c ts ≡ None)

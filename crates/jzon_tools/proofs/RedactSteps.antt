@@ -10,7 +10,8 @@ use Rattle.jzon.specs.Value.{Value, values_of, pairs_of, value, pair}
 use Rattle.jzon.specs.View.{view, viewed}
 use Rattle.jzon.proofs.InPlace.{IsWrittenBelow, seen_member, unwritten, written-next_member}
 use Rattle.jzon.proofs.ValueLaws.{view-Array, view-Object, view-Short}
-use Rattle.jzon_tools.specs.Redact.{hidden, is_among, names_among, redacted, redacted_values}
+use Rattle.jzon_tools.specs.Redact.{hidden, names_among, redacted, redacted_values}
+use Rattle.jzon_pointer.specs.Names.{is_among}
 use Rattle.jzon_tools.specs.Redact.{redacted_pairs, redacted_member}
 use Rattle.jzon_tools.specs.Redact.{hidden_count, hidden_count_values, hidden_count_pairs, hidden_count_member}
 

@@ -4,9 +4,9 @@ use Rattle.jzon.specs.PairList.{find, keys_of}
 use Rattle.jzon.specs.Same.{same}
 use Rattle.jzon.specs.SameLaws.{same_at}
 use Rattle.jzon.specs.Value.{Value, object, pairs_of, values_of}
-use Rattle.jzon_tools.specs.Escaped.{escaped}
+use Rattle.jzon_pointer.specs.Escaped.{escaped}
 use Rattle.jzon_tools.specs.Patch.{applied, applied_each, added_at, operated}
-use Rattle.jzon_tools.specs.Pointer.{child_of, tokens_of, updated, updated_at, removed_at}
+use Rattle.jzon_pointer.specs.Pointer.{child_of, tokens_of, updated, updated_at, removed_at}
 
 -- the patch turns the old value into one that is equal to the new one
 abbrev pub TurnsInto : Value → Value → Value → Type 0

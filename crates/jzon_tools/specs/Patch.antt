@@ -9,7 +9,7 @@ use Rattle.jzon.specs.PairList.{find}
 use Rattle.jzon.specs.Readers.{entries, is_object, text_in}
 use Rattle.jzon.specs.Same.{same}
 use Rattle.jzon.specs.Value.{Value, array, Values, no_values, value, nest}
-use Rattle.jzon_tools.specs.Pointer.{value_at, entry_at, inserted_at, removed_at, updated_at}
+use Rattle.jzon_pointer.specs.Pointer.{value_at, entry_at, inserted_at, removed_at, updated_at}
 use Rattle.jzon_tools.specs.Weight.{weight}
 use Rattle.jzon_tools.specs.declared.patch.Cause.{Cause}
 use Rattle.jzon_tools.specs.declared.patch.Cause.TheVariants.{NotAnArray, NotAnObject, Missing, NotAString, UnknownOp}

@@ -1,17 +1,12 @@
 -- A value in which each member with one of some names is the string `***`, at any depth.
 use Rattle.std.specs.Prelude.{ℕ, ◌+◌, List, Bool, false, Option, None, Some, codes, if◌then◌else◌}
-use Rattle.std.specs.List.{list_any}
-use Rattle.std.specs.Str.{bytes_eq}
 use Rattle.jzon.specs.Value.{Value, null, boolean, text, number, array, object, Values, no_values, value, ValuePairs}
 use Rattle.jzon.specs.Value.{no_pairs, pair, short}
+use Rattle.jzon_pointer.specs.Names.{is_among}
 
 -- what replaces a member's value
 abbrev pub hidden : Value
 hidden = text short (codes "***")
-
--- whether a name is one of them
-abbrev pub is_among : List (List ℕ) → List ℕ → Bool
-is_among names k = list_any (λ n. bytes_eq n k) names
 
 -- whether the name of a member that may be there is one of them
 abbrev pub names_among : {V : Type 0} → List (List ℕ) → Option (List ℕ × V) → Bool

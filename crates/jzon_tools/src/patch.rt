@@ -16,19 +16,20 @@ ghost use Rattle.jzon.specs.View.{view};
 ghost use Rattle.jzon_tools.specs.ErrorTexts.{cause_text, patch_error_kind, patch_error_text, shown_text};
 ghost use Rattle.jzon_tools.specs.Patch.{added_at, applied, applied_within, copied_by, depth_by, entry_of, first_undone, has_value, is_below, is_refusal, is_within, left_after, moved_at, operated, operated_by, slashes, tested_at, text_at, usual, value_of, IsBackup, IsCause, IsCauseOf, IsDone, IsLookup, IsText, Takes};
 ghost use Rattle.jzon_tools.specs.Patch as meaning;
-ghost use Rattle.jzon_tools.specs.Pointer.{entry_at, removed_at, updated_at};
+ghost use Rattle.jzon_pointer.specs.Pointer.{entry_at, removed_at, updated_at};
 ghost use Rattle.jzon_tools.specs.declared.patch.Cause.TheVariants.{OutOfMemory, TooDeep, TooLarge};
 ghost use Rattle.jzon_tools.specs.declared.patch.Limits.{Limits as Within};
 ghost use Rattle.jzon_tools.specs.declared.patch.Op.TheVariants as ops;
-ghost use Rattle.jzon_tools.specs.declared.pointer.PointerError.TheVariants as pointers;
+ghost use Rattle.jzon_pointer.specs.declared.pointer.PointerError.TheVariants as pointers;
 
 mod changes;
 
-use crate::pointer::{self, PointerError};
-use crate::shown::ShownPointer;
+use crate::edit;
 use crate::weight::{nests_within, weigh};
 pub use changes::diff;
 use jzon::{JsonValue, io_error};
+use jzon_pointer::shown::ShownPointer;
+use jzon_pointer::{PointerError, find};
 use std::alloc::Global;
 use std::io::ErrorKind;
 use std::{fmt, io};
@@ -435,7 +436,7 @@ fn look<'a>(value: &'a JsonValue, name: &'static str, path: &str) -> Result<&'a 
     ensures cause { (op v : Value) → IsLookup name.now path.now (view value.now) op v
         → (l : Within) → IfErr result (λ e. IsCause e l op v) }
 {
-    match pointer::find(value, path) {
+    match find(value, path) {
         Ok(found) => Ok(found),
         Err(error) => Err(at(name, error)),
     }
@@ -451,7 +452,7 @@ fn put(alloc: Global, value: &mut JsonValue, path: &str, new: JsonValue) -> Resu
         *value = new;
         return Ok(());
     }
-    match pointer::insert(alloc, value, path, new) {
+    match edit::insert(alloc, value, path, new) {
         Ok(()) => Ok(()),
         Err(error) => Err(at("path", error)),
     }
@@ -465,7 +466,7 @@ fn take(value: &mut JsonValue, name: &'static str, path: &str) -> Result<JsonVal
     ensures cause { (op v : Value) → IsLookup name.now path.now (view value.old) op v
         → Takes name.now op → (l : Within) → IfErr result (λ e. IsCause e l op v) }
 {
-    match pointer::remove(value, path) {
+    match edit::remove(value, path) {
         Ok(old) => Ok(old),
         Err(error) => Err(at(name, error)),
     }
@@ -478,7 +479,7 @@ fn replace(value: &mut JsonValue, path: &str, new: JsonValue) -> Result<(), Caus
     ensures cause { (op v : Value) → IsLookup (codes "path") path.now (view value.old) op v
         → (l : Within) → IfErr result (λ e. IsCause e l op v) }
 {
-    match pointer::replace(value, path, new) {
+    match edit::replace(value, path, new) {
         Ok(_old) => Ok(()),
         Err(error) => Err(at("path", error)),
     }

@@ -9,12 +9,13 @@ ghost use Rattle.std.specs.Prelude.{◌≡◌, ◌-◌, ◌^◌, min, map, slice
 ghost use Rattle.std.specs.List.{sum_by};
 ghost use Rattle.jzon.specs.Entries.{entries_of};
 ghost use Rattle.jzon.specs.View.{view, viewed};
-ghost use Rattle.jzon_tools.specs.Redact.{hidden, hidden_count, is_among, names_among, redacted};
+ghost use Rattle.jzon_tools.specs.Redact.{hidden, hidden_count, names_among, redacted};
 ghost use Rattle.jzon_tools.specs.Redact.{hidden_count_member, redacted_member};
 
 use jzon::JsonValue;
 use jzon::object::Object;
 use jzon::short::Short;
+use jzon_pointer::names::is_among;
 
 /// Replaces the value of each entry whose name is one of `names` by the string `***`, at any
 /// depth. Returns how many values it replaced, or `usize::MAX` if there were more. Compares each key
@@ -91,11 +92,4 @@ fn hides_member(object: &Object, index: usize, names: &[&str]) -> bool
         Some((key, _)) => is_among(names, key),
         None => false,
     }
-}
-
-/// Whether a key is one of the names.
-pub(crate) fn is_among(names: &[&str], key: &str) -> bool
-    ensures { result ≡ is_among (map (λ n. n.now) names.now) key.now }
-{
-    names.iter().any(|name| *name == key)
 }

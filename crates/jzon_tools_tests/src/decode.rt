@@ -4,7 +4,7 @@ use crate::common::{Tested, Tester, expect, expect_eq};
 use jzon::number::Number;
 use jzon::{IntoJson, JsonValue, Reading};
 use jzon_test_support::{RUNS_MAX, Refusals, joined, rows};
-use jzon_tools::decode::{self, DecodeError, Fields, FromJson};
+use jzon_typed::decode::{self, DecodeError, Fields, FromJson};
 use std::alloc::Global;
 use std::collections::{BTreeMap, HashMap};
 use std::io;
@@ -309,7 +309,12 @@ fn names_the_last_of_many(rt: HostRuntime) -> Tested {
         Ok(_read) => expect(&rt, "256", false),
         Err(error) => {
             expect_eq(&rt, "256", error.error.pointer(), "/9999");
-            expect_eq(&rt, "256", error.place.map(|place| place.offset), Some(19_999));
+            expect_eq(
+                &rt,
+                "256",
+                error.place.map(|place| place.offset),
+                Some(19_999),
+            );
         }
     }
     Ok(())

@@ -3,8 +3,8 @@
 use crate::common::{Tested, Tester, expect, expect_eq};
 use jzon::JsonValue;
 use jzon::number::Number;
-use jzon_tools::decode::{self, DecodeError, Fields, FromJson};
-use jzon_tools::encode::{self, Members, ToJson};
+use jzon_typed::decode::{self, DecodeError, Fields, FromJson};
+use jzon_typed::encode::{self, Members, ToJson};
 use std::alloc::Global;
 use std::collections::BTreeMap;
 use std::result::Result;
@@ -28,11 +28,13 @@ struct Server {
 
 impl ToJson for Server {
     fn to_json(&self, alloc: Global) -> jzon::Result<JsonValue> {
-        Ok(Members::new(alloc)
-            .put("host", &self.host)?
-            .put("port", &self.port)?
-            .put("secure", &self.secure)?
-            .into_value())
+        Ok(
+            Members::new(alloc)
+                .put("host", &self.host)?
+                .put("port", &self.port)?
+                .put("secure", &self.secure)?
+                .into_value(),
+        )
     }
 }
 
@@ -49,13 +51,15 @@ impl FromJson for Server {
 
 impl ToJson for Fleet {
     fn to_json(&self, alloc: Global) -> jzon::Result<JsonValue> {
-        Ok(Members::new(alloc)
-            .put("name", &self.name)?
-            .put("main", &self.main)?
-            .put("others", &self.others)?
-            .put("limits", &self.limits)?
-            .put_some("owner", &self.owner)?
-            .into_value())
+        Ok(
+            Members::new(alloc)
+                .put("name", &self.name)?
+                .put("main", &self.main)?
+                .put("others", &self.others)?
+                .put("limits", &self.limits)?
+                .put_some("owner", &self.owner)?
+                .into_value(),
+        )
     }
 }
 
@@ -111,13 +115,21 @@ fn writes_the_types_of_std(rt: HostRuntime) -> Tested {
     writes(&rt, &true, "true");
     writes(&rt, &Number::from_parts(true, 15, -1), "1.5");
     writes(&rt, &"a\"b", r#""a\"b""#);
-    writes(&rt, &"0123456789012345678901234567890", r#""0123456789012345678901234567890""#);
+    writes(
+        &rt,
+        &"0123456789012345678901234567890",
+        r#""0123456789012345678901234567890""#,
+    );
     writes(&rt, &String::from_str(alloc, "é")?, "\"é\"");
     writes(&rt, &None::<u8>, "null");
     writes(&rt, &Some(7u8), "7");
     let list: &[u8] = &[1, 2];
     writes(&rt, &list, "[1,2]");
-    writes(&rt, &jzon::array![alloc; 1u8, "two", null], r#"[1,"two",null]"#);
+    writes(
+        &rt,
+        &jzon::array![alloc; 1u8, "two", null],
+        r#"[1,"two",null]"#,
+    );
     writes(&rt, &Box::new(alloc, 5u8)?, "5");
     Ok(())
 }

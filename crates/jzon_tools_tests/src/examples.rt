@@ -4,7 +4,7 @@ use crate::common::Tested;
 use jzon::JsonValue;
 use jzon_tools::canonical::{canonical_text, of_text, sort_keys};
 use jzon_tools::redact::redact;
-use jzon_tools::{patch, pointer};
+use jzon_tools::{edit, patch};
 
 #[test]
 fn canonical_order(rt: HostRuntime) -> Tested {
@@ -61,20 +61,20 @@ fn redacted_user(rt: HostRuntime) -> Tested {
 fn pointed_port(rt: HostRuntime) -> Tested {
     let alloc = rt.alloc();
     let mut config = jzon::parse(alloc, r#"{"servers": [{"port": 80}]}"#)?;
-    let port = pointer::get(&config, "/servers/0/port");
+    let port = jzon_pointer::get(&config, "/servers/0/port");
     assert!(rt; port.is_some());
-    pointer::update(&mut config, "/servers/0/port", |port| {
+    edit::update(&mut config, "/servers/0/port", |port| {
         *port = JsonValue::from(81u16);
     })?;
-    pointer::insert(alloc, &mut config, "/servers/-", JsonValue::Null)?;
+    edit::insert(alloc, &mut config, "/servers/-", JsonValue::Null)?;
     let dump = config.dump(alloc)?;
     assert_eq!(rt; dump.as_str(), r#"{"servers":[{"port":81},null]}"#);
-    if let Err(error) = pointer::find(&config, "/servers/2/port") {
+    if let Err(error) = jzon_pointer::find(&config, "/servers/2/port") {
         let words = format!(in alloc; "{}", error.in_pointer("/servers/2/port"))?;
         assert_eq!(rt; words.as_str(), "/servers/2/port: /servers has 2 elements");
     }
     let mut path = String::from_str(alloc, "/servers/0")?;
-    pointer::push_token(&mut path, "a/b")?;
+    jzon_pointer::push_token(&mut path, "a/b")?;
     assert_eq!(rt; path.as_str(), "/servers/0/a~1b");
     Ok(())
 }

@@ -2,7 +2,7 @@
 
 use crate::common::{Tested, Tester, expect, expect_eq};
 use jzon::Reading;
-use jzon_tools::locate;
+use jzon_pointer::locate;
 
 /// A text, a pointer, and the offset, line and column of the value that it names.
 const FOUND: &[(&str, &str, (usize, usize, usize))] = &[
@@ -45,11 +45,33 @@ const NONE: &[(&str, &str)] = &[
 
 /// Texts that aren't JSON: the walk ends, whatever it gives.
 const ENDS: &[&str] = &[
-    "", "{", "[", "{\"", "{\"a", "{\"a\"", "{\"a\":", "{\"a\":1", "{\"a\":1,", "[1", "[1,", "[\"\\", "[[[[",
-    "]]]]", "{\"a\"1}", "{a:1}", "[,]", "é", "[é,é]",
+    "",
+    "{",
+    "[",
+    "{\"",
+    "{\"a",
+    "{\"a\"",
+    "{\"a\":",
+    "{\"a\":1",
+    "{\"a\":1,",
+    "[1",
+    "[1,",
+    "[\"\\",
+    "[[[[",
+    "]]]]",
+    "{\"a\"1}",
+    "{a:1}",
+    "[,]",
+    "é",
+    "[é,é]",
 ];
 
-fn expect_place(rt: &impl Tester, text: &str, pointer: &str, want: Option<(usize, usize, usize)>) -> Tested {
+fn expect_place(
+    rt: &impl Tester,
+    text: &str,
+    pointer: &str,
+    want: Option<(usize, usize, usize)>,
+) -> Tested {
     let place = locate::value_in(rt.alloc(), text, pointer, &Reading::USUAL)?;
     let found = place.map(|place| (place.offset, place.line, place.column));
     expect_eq(rt, text, found, want);
@@ -82,7 +104,17 @@ fn ends(rt: HostRuntime) -> Tested {
 
 #[test]
 fn locates_keys(rt: HostRuntime) -> Tested {
-    let place = locate::key_in(rt.alloc(), "{\"a\": {\n \"hots\" : 1}}", "/a/hots", &Reading::STRICT)?;
-    expect_eq(&rt, "hots", place.map(|place| (place.line, place.column)), Some((2, 2)));
+    let place = locate::key_in(
+        rt.alloc(),
+        "{\"a\": {\n \"hots\" : 1}}",
+        "/a/hots",
+        &Reading::STRICT,
+    )?;
+    expect_eq(
+        &rt,
+        "hots",
+        place.map(|place| (place.line, place.column)),
+        Some((2, 2)),
+    );
     Ok(())
 }

@@ -2,11 +2,11 @@
 
 use crate::common::{Tested, Tester, expect, expect_dump, expect_eq};
 use jzon::JsonValue;
+use jzon_pointer::PointerError::{Missing, NoSlash, WholeValue};
+use jzon_pointer::Primitive;
+use jzon_pointer::Reason::{NoChildren, NoMember, NotAnIndex, OutOfRange};
 use jzon_test_support::{RUNS_MAX, Refusals, joined, rows};
 use jzon_tools::patch::{self, Cause, Limits, PatchError};
-use jzon_tools::pointer::PointerError::{Missing, NoSlash, WholeValue};
-use jzon_tools::pointer::Primitive;
-use jzon_tools::pointer::Reason::{NoChildren, NoMember, NotAnIndex, OutOfRange};
 use std::io;
 use std::test::Fail;
 
@@ -381,7 +381,11 @@ fn turns_one_value_into_another(rt: HostRuntime) -> Tested {
         let wanted = jzon::parse(rt.alloc(), new)?;
         let patch = patch::diff(rt.alloc(), &value, &wanted)?;
         expect_dump(&rt, &patch, operations);
-        expect(&rt, old, patch::apply(rt.alloc(), &mut value, &patch).is_ok());
+        expect(
+            &rt,
+            old,
+            patch::apply(rt.alloc(), &mut value, &patch).is_ok(),
+        );
         expect(&rt, old, value == wanted);
     }
     Ok(())

@@ -3,10 +3,12 @@
 use crate::common::{Tested, Tester, expect, expect_dump, expect_eq};
 use Change::{Insert, Remove, Replace, Update};
 use jzon::JsonValue;
+use jzon_pointer::PointerError::{Missing, NoSlash, WholeValue};
+use jzon_pointer::Reason::{BadEscape, NoChildren, NoMember, NotAnIndex, OutOfRange};
+use jzon_pointer::shown::ShownPointer;
+use jzon_pointer::{InPointer, PointerError, Primitive, Reason};
 use jzon_test_support::{RUNS_MAX, Refusals, joined, rows};
-use jzon_tools::pointer::PointerError::{Missing, NoSlash, WholeValue};
-use jzon_tools::pointer::Reason::{BadEscape, NoChildren, NoMember, NotAnIndex, OutOfRange};
-use jzon_tools::pointer::{self, InPointer, PointerError, Primitive, Reason};
+use jzon_tools::edit;
 use std::io::{self, ErrorKind};
 use std::test::Fail;
 
@@ -62,23 +64,23 @@ const NO_POINTERS: &[&str] = &["a", "foo/0", "#/foo"];
 fn finds(rt: HostRuntime) -> Tested {
     let value = jzon::parse(rt.alloc(), TEXT)?;
     for (path, text) in FOUND {
-        let found = pointer::get(&value, path).ok_or("no value")?;
+        let found = jzon_pointer::get(&value, path).ok_or("no value")?;
         expect_dump(&rt, found, text);
-        expect(&rt, path, pointer::find(&value, path) == Ok(found));
+        expect(&rt, path, jzon_pointer::find(&value, path) == Ok(found));
     }
     Ok(())
 }
 
 /// No call finds a value, and none changes one.
 fn expect_missing(rt: &impl Tester, value: &mut JsonValue, path: &str, error: PointerError) {
-    let found = pointer::find(value, path).map(|_| ());
+    let found = jzon_pointer::find(value, path).map(|_| ());
     expect_eq(rt, path, found, Err(error));
-    expect(rt, path, pointer::get(value, path).is_none());
-    let updated = pointer::update(value, path, |place| *place = JsonValue::Null);
+    expect(rt, path, jzon_pointer::get(value, path).is_none());
+    let updated = edit::update(value, path, |place| *place = JsonValue::Null);
     expect_eq(rt, path, updated, Err(error));
-    let replaced = pointer::replace(value, path, JsonValue::Null).map(drop);
+    let replaced = edit::replace(value, path, JsonValue::Null).map(drop);
     expect_eq(rt, path, replaced, Err(error));
-    let removed = pointer::remove(value, path).map(drop);
+    let removed = edit::remove(value, path).map(drop);
     expect_eq(rt, path, removed, Err(error));
     expect_dump(rt, value, TEXT);
 }
@@ -116,10 +118,10 @@ fn changed(
 ) -> Result<JsonValue, PointerError> {
     let new = JsonValue::from(9u8);
     match change {
-        Replace => pointer::replace(value, path, new),
-        Insert => pointer::insert(rt.alloc(), value, path, new).map(|_| JsonValue::Null),
-        Remove => pointer::remove(value, path),
-        Update => pointer::update(value, path, |place| {
+        Replace => edit::replace(value, path, new),
+        Insert => edit::insert(rt.alloc(), value, path, new).map(|_| JsonValue::Null),
+        Remove => edit::remove(value, path),
+        Update => edit::update(value, path, |place| {
             *place = new;
             JsonValue::Null
         }),
@@ -201,7 +203,7 @@ fn changes_nothing_after_an_error(rt: HostRuntime) -> Tested {
 #[test]
 fn updates(rt: HostRuntime) -> Tested {
     let mut value = jzon::parse(rt.alloc(), r#"{"items":[{"count":3},{"count":20}]}"#)?;
-    let old = pointer::update(&mut value, "/items/1/count", |count| {
+    let old = edit::update(&mut value, "/items/1/count", |count| {
         let old = count.as_u32().unwrap_or(0);
         *count = JsonValue::from(u64::from(old) * 2);
         old
@@ -252,13 +254,13 @@ const POINTED: &[(&str, &str, &str)] = rows! {
 fn shows_errors_in_pointers(rt: HostRuntime) -> Tested {
     for (text, path, words) in POINTED {
         let value = jzon::parse(rt.alloc(), text)?;
-        if let Err(error) = pointer::find(&value, path) {
+        if let Err(error) = jzon_pointer::find(&value, path) {
             expect_words(&rt, error.in_pointer(path), words)?;
         } else {
             expect(&rt, path, false);
         }
     }
-    let whole = pointer::remove(&mut JsonValue::Null, "").map(drop);
+    let whole = edit::remove(&mut JsonValue::Null, "").map(drop);
     expect_eq(&rt, "whole", whole, Err(WholeValue));
     expect_words(
         &rt,
@@ -313,7 +315,7 @@ fn cuts_long_tokens_and_pointers(rt: HostRuntime) -> Tested {
         &[("/", 1), ("é", 150), ("b", 150), ("/", 1), ("c", 41)],
     )?;
     let path = path.as_str();
-    let shown = format!(in alloc; "{}", pointer::ShownPointer(path))?;
+    let shown = format!(in alloc; "{}", ShownPointer(path))?;
     let want = joined(
         alloc,
         &[
@@ -326,7 +328,7 @@ fn cuts_long_tokens_and_pointers(rt: HostRuntime) -> Tested {
         ],
     )?;
     expect_eq(&rt, path, shown.as_str(), want.as_str());
-    if let Err(error) = pointer::find(&value, path) {
+    if let Err(error) = jzon_pointer::find(&value, path) {
         let message = format!(in alloc; "{}", error.in_pointer(path))?;
         let want = format!(in alloc; "{want}: the whole value is null and has no members")?;
         expect_eq(&rt, path, message.as_str(), want.as_str());
@@ -334,7 +336,7 @@ fn cuts_long_tokens_and_pointers(rt: HostRuntime) -> Tested {
     let value = jzon::parse(alloc, "{}")?;
     let path = joined(alloc, &[("/", 1), ("c", 41)])?;
     let path = path.as_str();
-    if let Err(error) = pointer::find(&value, path) {
+    if let Err(error) = jzon_pointer::find(&value, path) {
         let message = format!(in alloc; "{}", error.in_pointer(path))?;
         let token = joined(alloc, &[("c", 40), ("..", 1)])?;
         let want = format!(in alloc; "{path}: the whole value has no key \"{token}\"")?;
@@ -371,7 +373,7 @@ fn finds_escaped_keys(rt: HostRuntime) -> Tested {
         (bad.as_str(), None),
     ];
     for (path, number) in found {
-        let at = pointer::get(&value, path).and_then(|found| found.as_u8());
+        let at = jzon_pointer::get(&value, path).and_then(|found| found.as_u8());
         expect_eq(&rt, path, at, number);
     }
     Ok(())
@@ -396,7 +398,7 @@ fn run(
 ) -> std::result::Result<bool, Fail> {
     let mut value = before.clone(rt.alloc())?;
     refusals.begin();
-    let outcome = pointer::insert(rt.alloc(), &mut value, path, JsonValue::from(9u8));
+    let outcome = edit::insert(rt.alloc(), &mut value, path, JsonValue::from(9u8));
     let has_failed = refusals.has_failed();
     if has_failed {
         expect_eq(rt, path, outcome, Err(PointerError::OutOfMemory));
@@ -433,7 +435,7 @@ fn inserts_counted(rt: HostRuntime) -> Tested {
     let mut refusals = Refusals::new(rt.alloc());
     refusals.open();
     for number in 0..1000u32 {
-        pointer::insert(rt.alloc(), &mut value, "/-", JsonValue::from(number))?;
+        edit::insert(rt.alloc(), &mut value, "/-", JsonValue::from(number))?;
     }
     refusals.close();
     refusals.expect_within(&rt, "inserts at the end", 48 * 4 * 1000)?;
@@ -459,16 +461,16 @@ fn pushes_tokens(rt: HostRuntime) -> Tested {
     let alloc = rt.alloc();
     for (before, key, after) in PUSHED {
         let mut path = String::from_str(alloc, before)?;
-        pointer::push_token(&mut path, key)?;
+        jzon_pointer::push_token(&mut path, key)?;
         expect_eq(&rt, after, path.as_str(), *after);
         let mut path = String::new(alloc);
-        pointer::push_token(&mut path, key)?;
+        jzon_pointer::push_token(&mut path, key)?;
         let mut object = JsonValue::new_object(alloc);
         object.insert(alloc, key, 5u8)?;
         expect(
             &rt,
             key,
-            pointer::get(&object, path.as_str()) == object.get(key),
+            jzon_pointer::get(&object, path.as_str()) == object.get(key),
         );
     }
     Ok(())
@@ -482,7 +484,7 @@ fn push_run(
 ) -> std::result::Result<bool, Fail> {
     let mut path = String::from_str(rt.alloc(), "/a")?;
     refusals.begin();
-    let outcome = pointer::push_token(&mut path, key);
+    let outcome = jzon_pointer::push_token(&mut path, key);
     let has_failed = refusals.has_failed();
     expect(rt, key, outcome.is_err() == has_failed);
     expect(rt, key, (path.as_str() == "/a") == has_failed);

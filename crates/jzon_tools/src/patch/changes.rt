@@ -10,9 +10,9 @@ ghost use Rattle.jzon.specs.Value.{array, no_values};
 ghost use Rattle.jzon.specs.View.{view, viewed, view_object};
 ghost use Rattle.jzon_tools.specs.Diff.{IsBelow, AddsChanges, AddsMember, Adds, Replaces, Removes, TurnsInto};
 
-use crate::pointer::push_token;
 use jzon::object::Object;
 use jzon::{Error, JsonValue, Result};
+use jzon_pointer::push_token;
 use std::alloc::Global;
 
 /// A patch (RFC 6902) that turns the old value into one that is equal to the new one. Objects are

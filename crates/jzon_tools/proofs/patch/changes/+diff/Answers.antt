@@ -10,7 +10,7 @@ use Rattle.jzon.specs.SameLaws.{same_at}
 use Rattle.jzon.specs.View.{view, viewed}
 use Rattle.jzon.proofs.ValueLaws.{keys-viewed}
 use Rattle.jzon_tools.specs.Diff.{IsBelow}
-use Rattle.jzon_tools.specs.Redact.{is_among}
+use Rattle.jzon_pointer.specs.Names.{is_among}
 use Rattle.jzon_tools.proofs.DiffSteps.{member-changed, member-kept, member-added, member-removed, changes-none, changes-replaced}
 use Rattle.jzon_tools.proofs.DiffSteps.{equal-by, objects-empty, size-found, seen, seen-there, pushed, on_ok, pending-start, pending-next, tail-apart, among-there}
 use Rattle.jzon_tools.proofs.DiffSteps.{first-there, rest-there, awaited-start, awaited-next, awaited-same, progress-end, Progress, pending, awaited}
@@ -19,7 +19,7 @@ use Rattle.jzon_tools.proofs.patch.changes.+diff.Goals as goal
 
 pub add_changes-returns-clause-ok : goal.add_changes-returns-clause-ok
 add_changes-returns-clause-ok t c = elim c.if-ne.branch [
-  add_changes-then-ne+in_ok-replacing+in_ok-push w ↦ changes-replaced c.args.path.now (view c.args.old.now)
+  | add_changes-then-ne+in_ok-replacing+in_ok-push w ↦ changes-replaced c.args.path.now (view c.args.old.now)
       (view c.args.new.now) (view w.in_ok-replacing.field-0) (map view c.args.operations.now.items)
       (map view c.if-ne.operations.items) w.in_ok-replacing.ensures.ok
       (pushed c.args.operations.now.items c.if-ne.operations.items w.in_ok-replacing.field-0

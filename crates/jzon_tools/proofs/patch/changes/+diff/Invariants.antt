@@ -6,7 +6,7 @@ use Rattle.jzon.specs.Entries.{entries_of}
 use Rattle.jzon.specs.Measure.{size, largest_under}
 use Rattle.jzon.specs.PairList.{find}
 use Rattle.jzon.specs.View.{view, viewed}
-use Rattle.jzon_tools.specs.Redact.{is_among}
+use Rattle.jzon_pointer.specs.Names.{is_among}
 use Rattle.jzon_tools.proofs.DiffSteps.{Progress, pending, awaited}
 use Rattle.jzon_tools.proofs.patch.changes.+diff.Given as goal
 

@@ -13,7 +13,7 @@ returns-clause-patch c =
     let o = view c.args.old.now in
     let n = view c.args.new.now in
     turned o n (map view c.if-ne.operations.items) _ (view-Array c.if-ne.operations) (elim c.if-ne.branch [
-      then-ne+in_ok-add_changes w ↦
+      | then-ne+in_ok-add_changes w ↦
           subst (λ (l : List JsonValue). AddsChanges [] o n (map view l) (map view c.if-ne.operations.items))
           c.new-operations.ensures.items
           (subst (λ (v : Vec JsonValue Global). AddsChanges [] o n (map view c.new-operations.result.items) (map view v.items))

@@ -1,0 +1,11 @@
+pub mod ChangeLaws
+pub mod ChildSteps
+pub mod EscapedSteps
+pub mod IndexSteps
+pub mod LocateBytes
+pub mod LocateSteps
+pub mod NameSteps
+pub mod PlaceSteps
+pub mod PointerSteps
+pub mod ShownSteps
+pub mod TokenSteps

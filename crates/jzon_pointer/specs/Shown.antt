@@ -1,0 +1,74 @@
+-- A stranger's text in a message: one line, of a bounded length.
+use Rattle.std.specs.Prelude.{ℕ, suc, List, [], ◌∷◌, ◌++◌, ◌-◌, ◌/◌, ◌%◌, Bool, ◌||◌, ◌&&◌, ◌==◌, nat_lt, nat_le, if◌then◌else◌}
+use Rattle.std.specs.Prelude.{chars, codes, encode_utf8, flat_map, length}
+use Rattle.std.specs.Char.{digit_char}
+use Rattle.jzon.specs.Error.{Error}
+use Rattle.jzon.specs.Error.TheVariants.{UnexpectedCharacter}
+use Rattle.jzon.specs.ErrorText.{place_text as position_text}
+use Rattle.jzon.specs.Located.{located_text}
+use Rattle.jzon.specs.declared.located.LocatedError.{LocatedError}
+
+-- Whether it is shown by its escape: control characters, and those below U+10000 that aren't seen, end a line, or turn
+-- the direction of what follows.
+abbrev pub is_hidden : ℕ → Bool
+is_hidden c =
+    nat_lt c 32 || (nat_le 127 c && nat_lt c 160) || (c == 173) || (c == 1564) || (nat_le 8203 c && nat_le c 8207)
+    || (nat_le 8232 c && nat_le c 8238) || (nat_le 8288 c && nat_le c 8303) || (c == 65279)
+
+-- two hexadecimal digits
+abbrev pub byte_text : ℕ → List ℕ
+byte_text b = digit_char (b / 16) ∷ digit_char (b % 16) ∷ []
+
+-- the escape of a character below 65536
+abbrev pub escape_text : ℕ → List ℕ
+escape_text c = codes "\\u" ++ (byte_text (c / 256) ++ byte_text (c % 256))
+
+-- a character in a string of JSON; a hidden one is escaped
+abbrev pub shown_char : ℕ → List ℕ
+shown_char c = if c == 34 then codes "\\\"" else (if c == 92 then codes "\\\\" else (if c == 10 then codes "\\n" else
+    (if c == 13 then codes "\\r" else (if c == 9 then codes "\\t" else
+    (if is_hidden c then escape_text c else encode_utf8 c)))))
+
+-- a text with such escapes
+abbrev pub shown_text : List ℕ → List ℕ
+shown_text bytes = flat_map shown_char (chars bytes)
+
+-- what is shown of character i: dots in place of those from `front` on and before `last`
+abbrev pub piece : ℕ → ℕ → ℕ → ℕ → List ℕ
+piece front last i c = if nat_lt i front || nat_le last i then shown_char c else (if i == front then codes ".." else [])
+
+-- the same of characters, the first of which is number i
+abbrev pub pieces : ℕ → ℕ → ℕ → List ℕ → List ℕ
+pieces front last i [] = []
+pieces front last i (c ∷ cs) = piece front last i c ++ pieces front last (suc i) cs
+
+-- the first `front` and the last `back` characters of a text, with dots between them if others are there
+abbrev pub cut_text : ℕ → ℕ → List ℕ → List ℕ
+cut_text front back bytes = pieces front (length (chars bytes) - back) 0 (chars bytes)
+
+-- a token or a key: of more than 40 characters, the first 40
+abbrev pub token_shown : List ℕ → List ℕ
+token_shown bytes = cut_text 40 0 bytes
+
+-- a pointer: of more than 200 characters, the first 100 and the last 100
+abbrev pub pointer_shown : List ℕ → List ℕ
+pointer_shown bytes = cut_text 100 100 bytes
+
+-- the pointer of a value, and a colon; nothing of the whole value
+abbrev pub place_text : List ℕ → List ℕ
+place_text p = if length p == 0 then [] else pointer_shown p ++ codes ": "
+
+-- the error of a text, whose character is escaped
+abbrev pub text_error_text : Error → LocatedError → List ℕ
+text_error_text (UnexpectedCharacter ch line column) l =
+    codes "Unexpected character: " ++ (shown_char ch ++ (codes " at " ++ position_text line column))
+text_error_text e l = located_text l
+
+-- names after others, with commas before them
+abbrev pub others_text : List (List ℕ) → List ℕ
+others_text ns = flat_map (λ n. codes ", " ++ n) ns
+
+-- names, with commas between them
+abbrev pub names_text : List (List ℕ) → List ℕ
+names_text [] = codes "none"
+names_text (n ∷ ns) = n ++ others_text ns

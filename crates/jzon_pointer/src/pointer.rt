@@ -1,0 +1,333 @@
+//! JSON pointers (RFC 6901): reading, and changing in place, the value that a text such as `/a/0`
+//! names.
+//!
+//! `value_at` of specs/Pointer.antt says which value that is, or which token names nothing.
+
+ghost use Rattle.std.specs.Prelude.{◌≡◌, ◌∷◌, ◌++◌, [], List, ℕ, OnOk, OnErr, IfOk, IfErr, Ok, Err, Some, string_bytes, option_map};
+ghost use Rattle.std.specs.IoError.{error_kind};
+ghost use Rattle.std.specs.Result.{result_ok};
+ghost use Rattle.jzon.specs.View.{view};
+ghost use Rattle.jzon_pointer.specs.ErrorTexts.{before, behind, explained, parent_text, pointed_text, pointer_error_kind, pointer_error_text, primitive_text, reason_text, token_text};
+ghost use Rattle.jzon_pointer.specs.Escaped.{escaped};
+ghost use Rattle.jzon_pointer.specs.Pointer.{child_of, reason_of, tokens_left, tokens_of, token_key, value_at};
+
+pub use crate::shown::ShownPointer;
+use crate::shown::ShownToken;
+use crate::token::{
+    after_slash, first_token, has_index_form, index_of, is_well_escaped, member, push_escaped,
+};
+use jzon::{JsonValue, io_error};
+use std::alloc::AllocError;
+use std::io::ErrorKind;
+use std::{fmt, io};
+
+/// Why a pointer names nothing in a value, or why nothing could be inserted there.
+#[derive(Clone, Copy, Debug, PartialEq, Eq)]
+pub enum PointerError {
+    /// The text isn't empty, and begins with no `/`.
+    NoSlash,
+    /// The token between these bytes of the pointer, counted from 0, is the first that names
+    /// nothing.
+    Missing {
+        start: usize,
+        end: usize,
+        reason: Reason,
+    },
+    /// The empty text names the whole value, which is in no array and no object.
+    WholeValue,
+    /// An allocation failed.
+    OutOfMemory,
+}
+
+/// Why a token names nothing.
+#[derive(Clone, Copy, Debug, PartialEq, Eq)]
+pub enum Reason {
+    /// A `~` isn't followed by `0` or `1`.
+    BadEscape,
+    /// The object has no such key.
+    NoMember,
+    /// The value is an array, and the token is no index: digits, with no zero before others.
+    NotAnIndex,
+    /// The array has only this many elements.
+    OutOfRange { length: usize },
+    /// The value is no array and no object.
+    NoChildren(Primitive),
+}
+
+/// The type of a value that is no array and no object (RFC 8259, section 1).
+#[derive(Clone, Copy, Debug, PartialEq, Eq)]
+pub enum Primitive {
+    Null,
+    Boolean,
+    Number,
+    String,
+}
+
+impl PointerError {
+    /// The error of this pointer, to be shown: `/server/port: /server is a number and has no
+    /// members`.
+    ///
+    /// ```rust
+    /// if let Err(error) = pointer::find(&config, "/servers/2/port") {
+    ///     let words = format!(in alloc; "{}", error.in_pointer("/servers/2/port"))?;
+    ///     assert_eq!(rt; words.as_str(), "/servers/2/port: /servers has 2 elements");
+    /// }
+    /// ```
+    pub fn in_pointer(self, pointer: &str) -> InPointer<'_>
+        ensures error { result.error ≡ self }
+        ensures pointer { result.pointer.now ≡ pointer.now }
+    {
+        InPointer {
+            error: self,
+            pointer,
+        }
+    }
+
+    fn io_kind(self) -> ErrorKind
+        ensures { result ≡ pointer_error_kind self }
+    {
+        match self {
+            PointerError::OutOfMemory => ErrorKind::OutOfMemory,
+            _ => ErrorKind::InvalidData,
+        }
+    }
+}
+
+/// A `PointerError` that is shown with its pointer.
+#[derive(Clone, Copy, Debug)]
+pub struct InPointer<'a> {
+    error: PointerError,
+    pointer: &'a str,
+}
+
+/// Why a token names nothing, and what the value is called in which it doesn't.
+#[derive(Clone, Copy)]
+struct Explained<'a> {
+    reason: Reason,
+    parent: &'a str,
+    token: &'a str,
+}
+
+impl fmt::Display for PointerError {
+    ghost output = { λ e. Some (pointer_error_text e) };
+
+    fn fmt<W: fmt::Write>(&self, f: &mut fmt::Formatter<W>) -> fmt::Result {
+        match self {
+            PointerError::NoSlash => f.write_str("The pointer begins with no /"),
+            PointerError::Missing { start, reason, .. } => {
+                write!(f, "At byte {start} of the pointer: {reason}")
+            }
+            PointerError::WholeValue => f.write_str("The pointer names the whole value"),
+            PointerError::OutOfMemory => f.write_str("Out of memory"),
+        }
+    }
+}
+
+impl fmt::Display for Reason {
+    ghost output = { λ r. Some (reason_text r) };
+
+    fn fmt<W: fmt::Write>(&self, f: &mut fmt::Formatter<W>) -> fmt::Result {
+        match self {
+            Reason::BadEscape => f.write_str("~ without 0 or 1 after it"),
+            Reason::NoMember => f.write_str("no such key"),
+            Reason::NotAnIndex => f.write_str("not an index of an array"),
+            Reason::OutOfRange { length: 1 } => f.write_str("the array has 1 element"),
+            Reason::OutOfRange { length } => write!(f, "the array has {length} elements"),
+            Reason::NoChildren(found) => write!(f, "{found} has no members"),
+        }
+    }
+}
+
+impl fmt::Display for Primitive {
+    ghost output = { λ p. Some (primitive_text p) };
+
+    fn fmt<W: fmt::Write>(&self, f: &mut fmt::Formatter<W>) -> fmt::Result {
+        match self {
+            Primitive::Null => f.write_str("null"),
+            Primitive::Boolean => f.write_str("a boolean"),
+            Primitive::Number => f.write_str("a number"),
+            Primitive::String => f.write_str("a string"),
+        }
+    }
+}
+
+impl fmt::Display for InPointer<'_> {
+    ghost output = { λ e. Some (pointed_text e.error e.pointer.now) };
+
+    fn fmt<W: fmt::Write>(&self, f: &mut fmt::Formatter<W>) -> fmt::Result {
+        let pointer = ShownPointer(self.pointer);
+        match self.error {
+            PointerError::NoSlash => write!(f, "{pointer}: a pointer begins with /"),
+            PointerError::Missing { start, end, reason } => {
+                let why = Explained {
+                    reason,
+                    parent: parent(self.pointer, start),
+                    token: token(self.pointer, start, end),
+                };
+                write!(f, "{pointer}: {why}")
+            }
+            error => write!(f, "{error}"),
+        }
+    }
+}
+
+impl fmt::Display for Explained<'_> {
+    ghost output = { λ e. Some (explained e.reason e.parent.now e.token.now) };
+
+    fn fmt<W: fmt::Write>(&self, f: &mut fmt::Formatter<W>) -> fmt::Result {
+        let parent = ShownPointer(self.parent);
+        let token = ShownToken(self.token);
+        match self.reason {
+            Reason::BadEscape => f.write_str("~ without 0 or 1 after it"),
+            Reason::NoMember => write!(f, "{parent} has no key \"{token}\""),
+            Reason::NotAnIndex => write!(f, "{parent} is an array, and \"{token}\" is no index"),
+            Reason::OutOfRange { length: 1 } => write!(f, "{parent} has 1 element"),
+            Reason::OutOfRange { length } => write!(f, "{parent} has {length} elements"),
+            Reason::NoChildren(found) => write!(f, "{parent} is {found} and has no members"),
+        }
+    }
+}
+
+/// What the value is called in which the token that begins here names nothing.
+fn parent(pointer: &str, start: usize) -> &str
+    ensures { result.now ≡ parent_text pointer.now start }
+{
+    let (before, _slash) = parts(pointer, start.saturating_sub(1));
+    if before.is_empty() {
+        return "the whole value";
+    }
+    before
+}
+
+/// The token between these bytes.
+fn token(pointer: &str, start: usize, end: usize) -> &str
+    ensures { result.now ≡ token_text pointer.now start end }
+{
+    let (_before, from_start) = parts(pointer, start);
+    parts(from_start, end.saturating_sub(start)).0
+}
+
+/// The text before a position, and the text from there. The whole text and nothing if a character
+/// doesn't begin there, as in another pointer than that of the error.
+fn parts(text: &str, at: usize) -> (&str, &str)
+    ensures before { result.0.now ≡ before at text.now }
+    ensures behind { result.1.now ≡ behind at text.now }
+{
+    match text.split_at_checked(at) {
+        Some((before, behind)) => (before, behind),
+        None => (text, ""),
+    }
+}
+
+impl std::error::Error for PointerError {}
+
+/// So that `?` works in a `main` that returns an `io::Result`. The kind is `OutOfMemory`, or else
+/// `InvalidData`.
+impl From<PointerError> for io::Error {
+    ghost from_gives = { λ e i. error_kind i ≡ pointer_error_kind e };
+
+    fn from(error: PointerError) -> io::Error {
+        io_error(error.io_kind(), &error)
+    }
+}
+
+/// As from a `PointerError`. After 80 bytes the message is cut.
+impl From<InPointer<'_>> for io::Error {
+    ghost from_gives = { λ e i. error_kind i ≡ pointer_error_kind e.error };
+
+    fn from(shown: InPointer<'_>) -> io::Error {
+        io_error(shown.error.io_kind(), &shown)
+    }
+}
+
+/// The value that a pointer names.
+///
+/// ```rust
+/// let port = pointer::get(&config, "/servers/0/port");
+/// ```
+pub fn get<'a>(value: &'a JsonValue, path: &str) -> Option<&'a JsonValue>
+    ensures { option_map (λ v. view v.now) result
+        ≡ result_ok (value_at (view value.now) path.now) }
+{
+    find(value, path).ok()
+}
+
+/// The value that a pointer names, or the first token that names nothing, and why.
+#[tactic(auto, using(crate::proofs::PlaceSteps::placing))]
+pub fn find<'a>(value: &'a JsonValue, path: &str) -> Result<&'a JsonValue, PointerError>
+    ensures found { IfOk result (λ v. value_at (view value.now) path.now ≡ Ok (view v.now)) }
+    ensures error { IfErr result (λ e. value_at (view value.now) path.now ≡ Err e) }
+{
+    let mut place = value;
+    let mut left = after_slash(path)?;
+    'tokens: while let Some(text) = left {
+        let (token, rest) = first_token(text);
+        let Some(below) = child(place, token) else {
+            let start = path.len() - text.len();
+            return Err(PointerError::Missing {
+                start,
+                end: start + token.len(),
+                reason: why_missing(place, token),
+            });
+        };
+        place = below;
+        left = rest;
+    }
+    Ok(place)
+}
+
+/// Appends a slash and the token of a key, so that the pointer then leads one key deeper: `~0` for
+/// each `~`, and `~1` for each `/`. After an error the pointer is as it was.
+///
+/// ```rust
+/// let mut path = String::from_str(alloc, "/servers/0")?;
+/// pointer::push_token(&mut path, "a/b")?;
+/// assert_eq!(rt; path.as_str(), "/servers/0/a~1b");
+/// ```
+#[tactic(auto, using(crate::proofs::EscapedSteps::pushing))]
+pub fn push_token(pointer: &mut String, key: &str) -> Result<(), AllocError>
+    ensures text { OnOk result (string_bytes pointer.new
+        ≡ string_bytes pointer.old ++ 47 ∷ escaped key.now) }
+    ensures tokens { (ts : List (List ℕ)) → tokens_of (string_bytes pointer.old) ≡ Some ts
+        → OnOk result (tokens_of (string_bytes pointer.new) ≡ Some (ts ++ escaped key.now ∷ [])) }
+    ensures key { token_key (escaped key.now) ≡ Some key.now }
+    ensures err { OnErr result (string_bytes pointer.new ≡ string_bytes pointer.old) }
+{
+    let mut token = String::new(*pointer.allocator());
+    token.push_str("/")?;
+    push_escaped(&mut token, key)?;
+    pointer.push_str(token.as_str())
+}
+
+/// Why a token names nothing, if it does.
+#[tactic(auto, using(crate::proofs::PlaceSteps::placing))]
+fn why_missing(value: &JsonValue, token: &str) -> Reason
+    ensures { result ≡ reason_of (view value.now) token.now }
+{
+    if !is_well_escaped(token) {
+        return Reason::BadEscape;
+    }
+    match value {
+        JsonValue::Object(_) => Reason::NoMember,
+        JsonValue::Array(items) if has_index_form(token) => Reason::OutOfRange {
+            length: items.len(),
+        },
+        JsonValue::Array(_) => Reason::NotAnIndex,
+        JsonValue::Null => Reason::NoChildren(Primitive::Null),
+        JsonValue::Boolean(_) => Reason::NoChildren(Primitive::Boolean),
+        JsonValue::Number(_) => Reason::NoChildren(Primitive::Number),
+        JsonValue::Short(_) | JsonValue::String(_) => Reason::NoChildren(Primitive::String),
+    }
+}
+
+/// The entry's value or the element that a token names.
+#[tactic(auto, using(crate::proofs::PlaceSteps::placing))]
+fn child<'a>(value: &'a JsonValue, token: &str) -> Option<&'a JsonValue>
+    ensures { option_map (λ v. view v.now) result ≡ child_of (view value.now) token.now }
+{
+    match value {
+        JsonValue::Array(items) => items.get(index_of(token)?),
+        JsonValue::Object(object) => member(object, token),
+        _ => None,
+    }
+}

@@ -1,8 +1,0 @@
-use Rattle.jzon.specs.View.{view}
-use Rattle.jzon_tools.specs.DecodeFields.{read_from}
-use Rattle.jzon_tools.proofs.decode.fields.Fields.wrong.Goals as goal
-
-pub returns : goal.returns
-returns c =
-    c.below_key.ensures (read_from c.args.self.now) (view c.args.value.now) c.requires.entry
-    (c.wrong.ensures c.requires.refused)

@@ -1,0 +1,15 @@
+use Rattle.std.proofs.Common.{None, Some, sym, ap, ◌∙◌, arith}
+use Rattle.jzon_tools.proofs.EditSteps.{element-new}
+use Rattle.jzon_pointer.proofs.PlaceSteps.{array_seen}
+use Rattle.jzon_tools.proofs.edit.insert_element.Goals as goal
+
+pub returns-in_default-clause-ok : goal.returns-in_default-clause-ok
+returns-in_default-clause-ok c =
+    element-new c.args.items.now.items c.args.token.now c.args.new c.len.result None (omega arith)
+    (sym c.in_default.ensures.index)
+
+pub returns-clause-ok : goal.returns-clause-ok
+returns-clause-ok c =
+    element-new c.args.items.now.items c.args.token.now c.args.new c.len.result (Some c.in-Some.index) (omega arith)
+    (sym c.in-Some.ensures.index)
+    ∙ ap (λ vs. Some (array_seen vs)) (sym c.in_ok-insert.ensures.items)

@@ -1,0 +1,322 @@
+//! Changes at a JSON pointer.
+//!
+//! A change goes down by `change_at`, a recursion, since a contract can say what a closure leaves
+//! inside a value, but not what is written through a returned reference. Where it finds nothing,
+//! nothing was changed, and `find` then says why.
+
+ghost use Rattle.std.specs.Prelude.{◌≡◌, ◌≤◌, ◌⊎◌, ◌∷◌, ℕ, List, OnOk, OnErr, IfOk, IfErr, IfSome, IsErr, Ok, Err, None, Some, false, if◌then◌else◌, map, option_map};
+ghost use Rattle.std.specs.Fn.{FnOnceReturnsAtMut};
+ghost use Rattle.std.specs.Option.{option_copied};
+ghost use Rattle.jzon.specs.JsonValue.{JsonValue as Json};
+ghost use Rattle.jzon.specs.Value.{Value, array, values_of};
+ghost use Rattle.jzon.specs.View.{view, view_object};
+ghost use Rattle.jzon_pointer.specs.Pointer.{child_of, entry_at, inserted_at, new_index, removed_at, tokens_left, updated_at, value_at, with_new, without, ChangesAt, IsLast, LacksAt};
+ghost use Rattle.jzon_pointer.specs.declared.pointer.PointerError.TheVariants.{OutOfMemory};
+
+use jzon::JsonValue;
+use jzon::object::Object;
+use jzon_pointer::token::{after_slash, first_token, index_of, is_plain, key_of, position_of};
+use jzon_pointer::{PointerError, find};
+use std::alloc::Global;
+
+/// Calls `change` with the value that a pointer names, and returns what it returns. After an error
+/// it wasn't called.
+///
+/// ```rust
+/// edit::update(&mut config, "/servers/0/port", |port| {
+///     *port = JsonValue::from(81u16);
+/// })?;
+/// ```
+pub fn update<R, F: FnOnce(&mut JsonValue) -> R>(
+    value: &mut JsonValue,
+    path: &str,
+    change: F,
+) -> Result<R, PointerError>
+    requires { F.IsAlwaysCallable change }
+    ensures ok { IfOk result (λ r. (old : Json) × (new : Json)
+        × FnOnceReturnsAtMut F.FnOnce change old r new
+        × (value_at (view value.old) path.now ≡ Ok (view old))
+        × (updated_at (λ _. Some (view new)) (view value.old) path.now ≡ Some (view value.new))) }
+    ensures err { OnErr result (view value.new ≡ view value.old) }
+    ensures error { IfErr result (λ e. value_at (view value.old) path.now ≡ Err e) }
+{
+    let left = after_slash(path)?;
+    match change_at(value, left, change) {
+        Some(changed) => Ok(changed),
+        None => Err(why_none(value, path)),
+    }
+}
+
+/// Puts a new value in the place of the one that a pointer names, and returns the old one.
+pub fn replace(value: &mut JsonValue, path: &str, new: JsonValue) -> Result<JsonValue, PointerError>
+    ensures old { IfOk result (λ old. value_at (view value.old) path.now ≡ Ok (view old)) }
+    ensures new { OnOk result (updated_at (λ _. Some (view new)) (view value.old) path.now
+        ≡ Some (view value.new)) }
+    ensures err { OnErr result (view value.new ≡ view value.old) }
+    ensures error { IfErr result (λ e. value_at (view value.old) path.now ≡ Err e) }
+{
+    update(value, path, |place| std::mem::replace(place, new))
+}
+
+/// Inserts a new value at a pointer, as `add` of RFC 6902 does: into an object, or into an array,
+/// before the element of this index. At `-`, and at the array's length, it becomes the last element.
+///
+/// **A key that is present is overwritten**: its old value is dropped. An array's elements from the
+/// index on move up.
+pub fn insert(
+    alloc: Global,
+    value: &mut JsonValue,
+    path: &str,
+    new: JsonValue,
+) -> Result<(), PointerError>
+    ensures ok { OnOk result (inserted_at (view new) (view value.old) path.now
+        ≡ Some (view value.new)) }
+    ensures err { OnErr result (view value.new ≡ view value.old) }
+    ensures error { IfErr result (λ e. (e ≡ OutOfMemory)
+        ⊎ ((inserted_at (view new) (view value.old) path.now ≡ None)
+        × (entry_at (view value.old) path.now ≡ Err e))) }
+{
+    let (left, token) = split_last(path)?;
+    match change_at(value, left, |place| insert_child(alloc, place, token, new)) {
+        Some(Ok(true)) => Ok(()),
+        Some(Err(_error)) => Err(PointerError::OutOfMemory),
+        Some(Ok(false)) => Err(why_none(value, path)),
+        None => Err(why_none(value, path)),
+    }
+}
+
+/// Removes the entry or the element that a pointer names, and returns its value.
+pub fn remove(value: &mut JsonValue, path: &str) -> Result<JsonValue, PointerError>
+    ensures old { IfOk result (λ old. entry_at (view value.old) path.now ≡ Ok (view old)) }
+    ensures new { OnOk result (removed_at (view value.old) path.now ≡ Some (view value.new)) }
+    ensures err { OnErr result (view value.new ≡ view value.old) }
+    ensures error { IfErr result (λ e. entry_at (view value.old) path.now ≡ Err e) }
+{
+    let (left, token) = split_last(path)?;
+    match change_at(value, left, |place| remove_child(place, token)) {
+        Some(Some(old)) => Ok(old),
+        Some(None) => Err(why_none(value, path)),
+        None => Err(why_none(value, path)),
+    }
+}
+
+/// The text of the tokens before the last, as `after_slash` returns it, and the last token.
+fn split_last(path: &str) -> Result<(Option<&str>, &str), PointerError>
+    ensures last { IfOk result (λ r. IsLast path.now (tokens_left (option_copied r.0)) r.1.now) }
+    ensures error { IfErr result (λ e. (v : Value) → entry_at v path.now ≡ Err e) }
+    ensures nothing { IfErr result (λ _. (w v : Value) → inserted_at w v path.now ≡ None) }
+{
+    let Some((parent, token)) = path.rsplit_once('/') else {
+        return Err(no_parent(path));
+    };
+    let left = after_slash(parent)?;
+    Ok((left, token))
+}
+
+/// Why a pointer without a slash has no last token.
+fn no_parent(path: &str) -> PointerError
+    requires { (rest : List ℕ) → path.now ≡ 47 ∷ rest → ⊥ }
+    ensures { (v : Value) → entry_at v path.now ≡ Err result }
+{
+    if path.is_empty() {
+        PointerError::WholeValue
+    } else {
+        PointerError::NoSlash
+    }
+}
+
+/// Why a pointer names nothing.
+fn why_none(value: &JsonValue, path: &str) -> PointerError
+    requires { IsErr (value_at (view value.now) path.now) }
+    ensures { value_at (view value.now) path.now ≡ Err result }
+{
+    match find(value, path) {
+        Ok(_found) => PointerError::WholeValue,
+        Err(error) => error,
+    }
+}
+
+/// Calls `change` with the value at the tokens that are left of a pointer, if there is one.
+#[cycle(change)]
+#[tactic(auto, using(jzon_pointer::proofs::PlaceSteps::placing))]
+fn change_at<R, F: FnOnce(&mut JsonValue) -> R>(
+    value: &mut JsonValue,
+    left: Option<&str>,
+    change: F,
+) -> Option<R>
+    requires { F.IsAlwaysCallable change }
+    ensures found { IfSome result (λ r. (old : Json) × (new : Json)
+        × FnOnceReturnsAtMut F.FnOnce change old r new
+        × ChangesAt (view value.old) (tokens_left (option_copied left.entry)) (view old) (view new)
+        (view value.new)) }
+    ensures missing { result ≡ None
+        → LacksAt (view value.old) (tokens_left (option_copied left.entry)) (view value.new) }
+{
+    let Some(text) = left else {
+        return Some(change(value));
+    };
+    let (token, rest) = first_token(text);
+    match value {
+        JsonValue::Array(items) => change_element(items, token, rest, change),
+        JsonValue::Object(object) => change_member(object, token, rest, change),
+        _ => None,
+    }
+}
+
+#[cycle(change)]
+#[tactic(auto, using(jzon_pointer::proofs::PlaceSteps::placing))]
+fn change_element<R, F: FnOnce(&mut JsonValue) -> R>(
+    items: &mut Vec<JsonValue>,
+    token: &str,
+    rest: Option<&str>,
+    change: F,
+) -> Option<R>
+    requires { F.IsAlwaysCallable change }
+    ensures found { IfSome result (λ r. (old : Json) × (new : Json)
+        × FnOnceReturnsAtMut F.FnOnce change old r new
+        × ChangesAt (array (values_of (map view items.old.items)))
+        (token.now ∷ tokens_left (option_copied rest.entry)) (view old) (view new)
+        (array (values_of (map view items.new.items)))) }
+    ensures missing { result ≡ None → LacksAt (array (values_of (map view items.old.items)))
+        (token.now ∷ tokens_left (option_copied rest.entry))
+        (array (values_of (map view items.new.items))) }
+{
+    let index = index_of(token)?;
+    let item = items.get_mut(index)?;
+    change_at(item, rest, change)
+}
+
+#[cycle(change)]
+#[tactic(auto, using(jzon_pointer::proofs::PlaceSteps::placing))]
+fn change_member<R, F: FnOnce(&mut JsonValue) -> R>(
+    object: &mut Object,
+    token: &str,
+    rest: Option<&str>,
+    change: F,
+) -> Option<R>
+    requires { F.IsAlwaysCallable change }
+    ensures found { IfSome result (λ r. (old : Json) × (new : Json)
+        × FnOnceReturnsAtMut F.FnOnce change old r new
+        × ChangesAt (view_object object.old) (token.now ∷ tokens_left (option_copied rest.entry))
+        (view old) (view new) (view_object object.new)) }
+    ensures missing { result ≡ None → LacksAt (view_object object.old)
+        (token.now ∷ tokens_left (option_copied rest.entry)) (view_object object.new) }
+{
+    let position = position_of(object, token)?;
+    let member = object.get_index_mut(position)?;
+    change_at(member, rest, change)
+}
+
+/// Inserts a child that a token names. Whether the value can have one of this name.
+#[tactic(auto, using(jzon_pointer::proofs::PlaceSteps::placing))]
+fn insert_child(
+    alloc: Global,
+    value: &mut JsonValue,
+    token: &str,
+    new: JsonValue,
+) -> jzon::Result<bool>
+    ensures ok { IfOk result (λ is. with_new (view new) (view value.old) token.now
+        ≡ (if is then Some (view value.new) else None)) }
+    ensures kept { IfOk result (λ is. is ≡ false → view value.new ≡ view value.old) }
+    ensures err { OnErr result (view value.new ≡ view value.old) }
+{
+    match value {
+        JsonValue::Array(items) => insert_element(items, token, new),
+        JsonValue::Object(object) => insert_member(alloc, object, token, new),
+        _ => Ok(false),
+    }
+}
+
+fn insert_element(items: &mut Vec<JsonValue>, token: &str, new: JsonValue) -> jzon::Result<bool>
+    ensures ok { IfOk result (λ is.
+        with_new (view new) (array (values_of (map view items.old.items))) token.now
+        ≡ (if is then Some (array (values_of (map view items.new.items))) else None)) }
+    ensures kept { IfOk result (λ is. is ≡ false → array (values_of (map view items.new.items))
+        ≡ array (values_of (map view items.old.items))) }
+    ensures err { OnErr result (array (values_of (map view items.new.items))
+        ≡ array (values_of (map view items.old.items))) }
+{
+    let Some(index) = new_index(token, items.len()) else {
+        return Ok(false);
+    };
+    items.insert(index, new)?;
+    Ok(true)
+}
+
+/// Puts a value under the key that a token names. `false` for a bad escape, which names none.
+fn insert_member(
+    alloc: Global,
+    object: &mut Object,
+    token: &str,
+    new: JsonValue,
+) -> jzon::Result<bool>
+    ensures ok { IfOk result (λ is. with_new (view new) (view_object object.old) token.now
+        ≡ (if is then Some (view_object object.new) else None)) }
+    ensures kept { IfOk result (λ is. is ≡ false
+        → view_object object.new ≡ view_object object.old) }
+    ensures err { OnErr result (view_object object.new ≡ view_object object.old) }
+{
+    if is_plain(token) {
+        object.insert(alloc, token, new)?;
+        return Ok(true);
+    }
+    match key_of(alloc, token)? {
+        Some(key) => {
+            object.insert(alloc, key.as_str(), new)?;
+            Ok(true)
+        }
+        None => Ok(false),
+    }
+}
+
+/// The index before which a token puts a new element of an array of this length.
+fn new_index(token: &str, len: usize) -> Option<usize>
+    ensures index { result ≡ new_index token.now len }
+    ensures within { IfSome result (λ index. index ≤ len) }
+{
+    if token == "-" {
+        return Some(len);
+    }
+    let index = index_of(token)?;
+    if index <= len { Some(index) } else { None }
+}
+
+/// Removes the child that a token names, and returns it.
+#[tactic(auto, using(jzon_pointer::proofs::PlaceSteps::placing))]
+fn remove_child(value: &mut JsonValue, token: &str) -> Option<JsonValue>
+    ensures old { option_map view result ≡ child_of (view value.old) token.now }
+    ensures new { without (view value.old) token.now ≡ option_map (λ _. view value.new) result }
+    ensures kept { result ≡ None → view value.new ≡ view value.old }
+{
+    match value {
+        JsonValue::Array(items) => remove_element(items, token),
+        JsonValue::Object(object) => remove_member(object, token),
+        _ => None,
+    }
+}
+
+fn remove_element(items: &mut Vec<JsonValue>, token: &str) -> Option<JsonValue>
+    ensures old { option_map view result
+        ≡ child_of (array (values_of (map view items.old.items))) token.now }
+    ensures new { without (array (values_of (map view items.old.items))) token.now
+        ≡ option_map (λ _. array (values_of (map view items.new.items))) result }
+    ensures kept { result ≡ None → array (values_of (map view items.new.items))
+        ≡ array (values_of (map view items.old.items)) }
+{
+    let index = index_of(token)?;
+    if index >= items.len() {
+        return None;
+    }
+    Some(items.remove(index))
+}
+
+fn remove_member(object: &mut Object, token: &str) -> Option<JsonValue>
+    ensures old { option_map view result ≡ child_of (view_object object.old) token.now }
+    ensures new { without (view_object object.old) token.now
+        ≡ option_map (λ _. view_object object.new) result }
+    ensures kept { result ≡ None → view_object object.new ≡ view_object object.old }
+{
+    let position = position_of(object, token)?;
+    let (_key, old) = object.shift_remove_index(position)?;
+    Some(old)
+}

@@ -1,0 +1,62 @@
+-- The entries of an object, read into a map by one key after the other.
+use Rattle.std.proofs.Common.{◌≡◌, ◌⊎◌, ℕ, List, [], ◌∷◌, Bool, true, false, ◌||◌, cond, if◌then◌else◌, Option, None, Some, MatchOption}
+use Rattle.std.proofs.Common.{refl, sym, ap, ◌∙◌, subst, inl, inr}
+use Rattle.std.proofs.lemmas.Slice.Eq.{bytes_eq-Decides}
+use Rattle.std.specs.List.{list_any}
+use Rattle.std.specs.Map.{update}
+use Rattle.std.specs.Str.{bytes_eq}
+use Rattle.jzon.specs.Entries.{entries_of}
+use Rattle.jzon.specs.Object.{Object}
+use Rattle.jzon.specs.PairList.{find, keys_of}
+use Rattle.jzon.specs.Readers.{entries}
+use Rattle.jzon.specs.Value.{Value}
+use Rattle.jzon.specs.View.{view_object}
+use Rattle.jzon_typed.proofs.FieldSteps.{keys-seen}
+
+-- the entries of all keys but some are read
+abbrev pub ReadsBut : {X : Type 0} → (Value → X → Type 0) → Value → List (List ℕ) → (List ℕ → Option X) → Type 0
+ReadsBut G v rest look = (k : List ℕ) → MatchOption (look k)
+    ((find k (entries v) ≡ None) ⊎ (list_any (λ j. bytes_eq j k) rest ≡ true))
+    (λ x. (w : Value) × (find k (entries v) ≡ Some w) × G w x)
+
+unread_by : (b : Bool) (w : Value) (o : Option Value) (r : Bool) → (o ≡ None) ⊎ (r ≡ true)
+    → ((if b then Some w else o) ≡ None) ⊎ ((b || r) ≡ true)
+unread_by true w o r h = inr refl
+unread_by false w o r h = h
+
+unread : (k : List ℕ) (ps : List (List ℕ × Value))
+    → (find k ps ≡ None) ⊎ (list_any (λ j. bytes_eq j k) (keys_of ps) ≡ true)
+unread k [] = inl refl
+unread k (p ∷ ps) =
+    unread_by (bytes_eq p.0 k) p.1 (find k ps) (list_any (λ j. bytes_eq j k) (keys_of ps)) (unread k ps)
+
+none_by : {X : Type 0} (o : Option X) (N : Type 0) (Q : X → Type 0) → o ≡ None → N → MatchOption o N Q
+none_by None N Q is h = h
+none_by (Some x) N Q is h = absurd (cc)
+
+-- no entry of an object is read yet
+pub none-read : {X : Type 0} (G : Value → X → Type 0) (o : Object) (keys : List (List ℕ)) (look : List ℕ → Option X)
+    → keys ≡ keys_of (entries_of o) → ((k : List ℕ) → look k ≡ None) → ReadsBut G (view_object o) keys look
+none-read G o keys look all empty = λ k.
+    none_by (look k) _ _ (empty k)
+    (subst (λ ks. (find k (entries (view_object o)) ≡ None) ⊎ (list_any (λ j. bytes_eq j k) ks ≡ true))
+    (keys-seen o ∙ sym all) (unread k (entries (view_object o))))
+
+one_by : {X : Type 0} (b : Bool) (o : Option X) (x : X) (N : Type 0) (r : Bool) (Q : X → Type 0) → (b ≡ true → Q x)
+    → MatchOption o (N ⊎ ((b || r) ≡ true)) Q → MatchOption (cond b (Some x) o) (N ⊎ (r ≡ true)) Q
+one_by true o x N r Q here h = here refl
+one_by false o x N r Q here h = h
+
+-- one entry more, which is put under the text of the next key
+pub one-read : {X : Type 0} (G : Value → X → Type 0) (v : Value) (key text : List ℕ) (keys rest : List (List ℕ))
+    (look new : List ℕ → Option X) (x : X) → ReadsBut G v keys look → keys ≡ key ∷ rest
+    → ((w : Value) × (find key (entries v) ≡ Some w) × G w x) → text ≡ key
+    → ((k : List ℕ) → new k ≡ update bytes_eq look text (Some x) k) → ReadsBut G v rest new
+one-read G v key text keys rest look new x before next read same is = λ k.
+    subst (λ o. MatchOption o ((find k (entries v) ≡ None) ⊎ (list_any (λ j. bytes_eq j k) rest ≡ true))
+    (λ y. (w : Value) × (find k (entries v) ≡ Some w) × G w y))
+    (sym (is k ∙ ap (λ (j : List ℕ). update bytes_eq look j (Some x) k) same))
+    (one_by (bytes_eq key k) (look k) x (find k (entries v) ≡ None) (list_any (λ j. bytes_eq j k) rest)
+    (λ y. (w : Value) × (find k (entries v) ≡ Some w) × G w y)
+    (λ e. subst (λ (j : List ℕ). (w : Value) × (find j (entries v) ≡ Some w) × G w x) ((bytes_eq-Decides key k).0 e) read)
+    (subst (λ ks. ReadsBut G v ks look) next before k))

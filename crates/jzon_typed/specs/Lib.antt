@@ -1,0 +1,8 @@
+pub mod Back
+pub mod Decode
+pub mod DecodeExpected
+pub mod DecodeFields
+pub mod DecodeFound
+pub mod DecodeMaps
+pub mod DecodeText
+pub mod Integers

@@ -1,0 +1,73 @@
+//! Reading a text or a value into numbers, strings, lists and structs, with errors that say where,
+//! what was expected, and what is there.
+//!
+//! An error names its place by a JSON pointer. Nobody hands a path down: a reader knows only its own
+//! value, and those of containers put the key or index before the pointer of an error that comes up.
+
+ghost use Rattle.std.specs.Prelude.{chars, IfOk, IfErr};
+ghost use Rattle.jzon.specs.Value.{Value};
+ghost use Rattle.jzon.specs.View.{view};
+ghost use Rattle.jzon_typed.specs.Decode.{IsErrorIn, IsLocatedIn, MeansSome};
+ghost use Rattle.jzon_typed.specs.Decode.{strict_exact};
+
+mod error;
+mod fields;
+mod impls;
+mod located;
+mod path;
+
+pub use error::{DecodeError, Expected, Found, Known, LONGEST};
+pub use fields::Fields;
+use jzon::{JsonValue, Reading, parse_located};
+pub use located::LocatedDecodeError;
+use std::alloc::Global;
+use std::result::Result;
+
+/// Types that are read from a value. An implementation may say by the relation `gives` which results
+/// a value gives; one that says nothing needs no ghost line.
+///
+/// ```rust
+/// impl FromJson for Server {
+///     fn from_json(alloc: Global, value: &JsonValue) -> Result<Server, DecodeError> {
+///         let server = Fields::only(alloc, value, &["host", "port", "tags"])?;
+///         Ok(Server {
+///             host: server.read("host")?,
+///             port: server.read_or("port", 80)?,
+///             tags: server.read_or("tags", Vec::new(alloc))?,
+///         })
+///     }
+/// }
+/// ```
+pub trait FromJson: Drop {
+    ghost gives: { Value → Self → Type 0 } = { λ _ _. Unit {0} };
+
+    /// The value as this type. The pointer of an error leads from this value.
+    fn from_json(alloc: Global, value: &JsonValue) -> Result<Self, DecodeError>
+        ensures value { IfOk result (gives (view value.now)) }
+        ensures error { IfErr result (IsErrorIn (view value.now)) };
+}
+
+/// The value that a text means, as this type. The text is read strictly and exactly: a repeated key,
+/// and a number that a `Number` can't have exactly, are errors. Each error has its line and column.
+pub fn from_text<T: FromJson>(alloc: Global, text: &str) -> Result<T, LocatedDecodeError>
+    ensures value { IfOk result (λ x. MeansSome strict_exact (chars text.now) (λ v. T.gives v x)) }
+    ensures error { IfErr result (IsLocatedIn strict_exact text.now) }
+{
+    from_text_as(alloc, text, &Reading::STRICT.with_exact_numbers())
+}
+
+/// The value that a text means by `reading`, as this type.
+pub fn from_text_as<T: FromJson>(
+    alloc: Global,
+    text: &str,
+    reading: &Reading,
+) -> Result<T, LocatedDecodeError>
+    ensures value { IfOk result (λ x. MeansSome reading.now (chars text.now) (λ v. T.gives v x)) }
+    ensures error { IfErr result (IsLocatedIn reading.now text.now) }
+{
+    let value = parse_located(alloc, text, reading)?;
+    match T::from_json(alloc, &value) {
+        Ok(read) => Ok(read),
+        Err(error) => Err(error.in_text(alloc, text, reading)),
+    }
+}

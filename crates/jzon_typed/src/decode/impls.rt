@@ -1,0 +1,281 @@
+//! How the types of std are read.
+
+ghost use Rattle.std.specs.Prelude.{◌≡◌, ◌<◌, ◌^◌, None, Some, string_bytes, true, FitsSigned, IfErr, IfOk, MatchOption};
+ghost use Rattle.std.specs.Int.{w8, w16, w32, w64};
+ghost use Rattle.std.specs.List.{AllZip};
+ghost use Rattle.std.specs.BTreeMap as tree;
+ghost use Rattle.std.specs.HashMap as hash;
+ghost use Rattle.jzon.specs.Decimal.{SomeWhere};
+ghost use Rattle.jzon.specs.Readers.{is_array, is_object, items, number_in, text_in, truth_in};
+ghost use Rattle.jzon.specs.Value.{null};
+ghost use Rattle.jzon.specs.View.{view};
+ghost use Rattle.jzon_typed.specs.Decode.{IsErrorIn};
+ghost use Rattle.jzon_typed.specs.DecodeExpected.{Refuses};
+ghost use Rattle.jzon_typed.specs.DecodeMaps.{ReadsEntries};
+ghost use Rattle.jzon_typed.specs.Integers.{natural_in, whole_in};
+
+use super::{DecodeError, Expected, Fields, FromJson};
+use jzon::JsonValue;
+use jzon::number::Number;
+use std::alloc::Global;
+use std::collections::{BTreeMap, HashMap};
+use std::result::Result;
+
+/// What was read, or the error of a value that isn't what is expected.
+fn or_wrong<T>(
+    alloc: Global,
+    value: &JsonValue,
+    read: Option<T>,
+    expected: Expected,
+) -> Result<T, DecodeError>
+    requires { read ≡ None → Refuses expected (view value.now) }
+    ensures value { IfOk result (λ x. read ≡ Some x) }
+    ensures error { IfErr result (IsErrorIn (view value.now)) }
+{
+    match read {
+        Some(read) => Ok(read),
+        None => Err(DecodeError::wrong(alloc, value, expected)),
+    }
+}
+
+/// A copy of the value.
+impl FromJson for JsonValue {
+    ghost gives = { λ v w. view w ≡ v };
+
+    fn from_json(alloc: Global, value: &JsonValue) -> Result<JsonValue, DecodeError> {
+        Ok(value.clone(alloc)?)
+    }
+}
+
+impl FromJson for String {
+    ghost gives = { λ v s. text_in v ≡ Some (string_bytes s) };
+
+    fn from_json(alloc: Global, value: &JsonValue) -> Result<String, DecodeError> {
+        match value.as_str() {
+            Some(text) => Ok(String::from_str(alloc, text)?),
+            None => Err(DecodeError::wrong(alloc, value, Expected::String)),
+        }
+    }
+}
+
+impl FromJson for bool {
+    ghost gives = { λ v b. truth_in v ≡ Some b };
+
+    fn from_json(alloc: Global, value: &JsonValue) -> Result<bool, DecodeError> {
+        or_wrong(alloc, value, value.as_bool(), Expected::Boolean)
+    }
+}
+
+impl FromJson for Number {
+    ghost gives = { λ v n. number_in v ≡ Some n };
+
+    fn from_json(alloc: Global, value: &JsonValue) -> Result<Number, DecodeError> {
+        or_wrong(alloc, value, value.as_number(), Expected::Number)
+    }
+}
+
+impl FromJson for u8 {
+    ghost gives = { λ v n. natural_in v ≡ Some n };
+
+    fn from_json(alloc: Global, value: &JsonValue) -> Result<u8, DecodeError> {
+        or_wrong(alloc, value, u8_in(value), Expected::U8)
+    }
+}
+
+impl FromJson for u16 {
+    ghost gives = { λ v n. natural_in v ≡ Some n };
+
+    fn from_json(alloc: Global, value: &JsonValue) -> Result<u16, DecodeError> {
+        or_wrong(alloc, value, u16_in(value), Expected::U16)
+    }
+}
+
+impl FromJson for u32 {
+    ghost gives = { λ v n. natural_in v ≡ Some n };
+
+    fn from_json(alloc: Global, value: &JsonValue) -> Result<u32, DecodeError> {
+        or_wrong(alloc, value, u32_in(value), Expected::U32)
+    }
+}
+
+impl FromJson for u64 {
+    ghost gives = { λ v n. natural_in v ≡ Some n };
+
+    fn from_json(alloc: Global, value: &JsonValue) -> Result<u64, DecodeError> {
+        or_wrong(alloc, value, natural(value), Expected::U64)
+    }
+}
+
+impl FromJson for usize {
+    ghost gives = { λ v n. natural_in v ≡ Some n };
+
+    fn from_json(alloc: Global, value: &JsonValue) -> Result<usize, DecodeError> {
+        or_wrong(alloc, value, usize_in(value), Expected::U64)
+    }
+}
+
+impl FromJson for i8 {
+    ghost gives = { λ v n. whole_in v ≡ Some n };
+
+    fn from_json(alloc: Global, value: &JsonValue) -> Result<i8, DecodeError> {
+        or_wrong(alloc, value, i8_in(value), Expected::I8)
+    }
+}
+
+impl FromJson for i16 {
+    ghost gives = { λ v n. whole_in v ≡ Some n };
+
+    fn from_json(alloc: Global, value: &JsonValue) -> Result<i16, DecodeError> {
+        or_wrong(alloc, value, i16_in(value), Expected::I16)
+    }
+}
+
+impl FromJson for i32 {
+    ghost gives = { λ v n. whole_in v ≡ Some n };
+
+    fn from_json(alloc: Global, value: &JsonValue) -> Result<i32, DecodeError> {
+        or_wrong(alloc, value, i32_in(value), Expected::I32)
+    }
+}
+
+impl FromJson for i64 {
+    ghost gives = { λ v n. whole_in v ≡ Some n };
+
+    fn from_json(alloc: Global, value: &JsonValue) -> Result<i64, DecodeError> {
+        or_wrong(alloc, value, whole(value), Expected::I64)
+    }
+}
+
+impl FromJson for isize {
+    ghost gives = { λ v n. whole_in v ≡ Some n };
+
+    fn from_json(alloc: Global, value: &JsonValue) -> Result<isize, DecodeError> {
+        or_wrong(alloc, value, isize_in(value), Expected::I64)
+    }
+}
+
+/// Null is `None`.
+impl<T: FromJson> FromJson for Option<T> {
+    ghost gives = { λ v o. MatchOption o (v ≡ null) (T.gives v) };
+
+    fn from_json(alloc: Global, value: &JsonValue) -> Result<Option<T>, DecodeError> {
+        if value.is_null() {
+            return Ok(None);
+        }
+        Ok(Some(T::from_json(alloc, value)?))
+    }
+}
+
+/// The elements of an array.
+impl<T: FromJson> FromJson for Vec<T> {
+    ghost gives = { λ v xs. (is_array v ≡ true) × AllZip T.gives (items v) xs.items };
+
+    fn from_json(alloc: Global, value: &JsonValue) -> Result<Vec<T>, DecodeError> {
+        let JsonValue::Array(items) = value else {
+            return Err(DecodeError::wrong(alloc, value, Expected::Array));
+        };
+        let mut list = Vec::with_capacity(alloc, items.len())?;
+        for (index, item) in items.iter().enumerate() {
+            match T::from_json(alloc, item) {
+                Ok(read) => list.push(read)?,
+                Err(error) => return Err(error.below_index(alloc, index)),
+            }
+        }
+        Ok(list)
+    }
+}
+
+/// The entries of an object.
+impl<T: FromJson> FromJson for BTreeMap<String, T> {
+    ghost gives = { λ v m. (is_object v ≡ true) × ReadsEntries T.gives v (tree.get_by_text m) };
+
+    fn from_json(alloc: Global, value: &JsonValue) -> Result<BTreeMap<String, T>, DecodeError> {
+        let fields = Fields::of(alloc, value)?;
+        let mut map = BTreeMap::new(alloc);
+        for key in fields.object.keys() {
+            let entry = fields.read(key)?;
+            map.insert(String::from_str(alloc, key)?, entry)?;
+        }
+        Ok(map)
+    }
+}
+
+/// The entries of an object.
+impl<T: FromJson> FromJson for HashMap<String, T> {
+    ghost gives = { λ v m. (is_object v ≡ true) × ReadsEntries T.gives v (hash.get_by_text m) };
+
+    fn from_json(alloc: Global, value: &JsonValue) -> Result<HashMap<String, T>, DecodeError> {
+        let fields = Fields::of(alloc, value)?;
+        let mut map = HashMap::new(alloc);
+        for key in fields.object.keys() {
+            let entry = fields.read(key)?;
+            map.insert(String::from_str(alloc, key)?, entry)?;
+        }
+        Ok(map)
+    }
+}
+
+/// The integer that a number is, however it is written, if it fits: 100 of `1e2` and `100.0`.
+fn whole(value: &JsonValue) -> Option<i64>
+    ensures { SomeWhere (whole_in (view value.now)) (FitsSigned w64) result }
+{
+    value.as_exact_fixed_point_i64(0)
+}
+
+/// The same, if it isn't below 0. It is 0 of `-0` too.
+fn natural(value: &JsonValue) -> Option<u64>
+    ensures { SomeWhere (natural_in (view value.now)) (λ n. n < 2 ^ 64) result }
+{
+    if let Some(integer) = value.as_exact_fixed_point_u64(0) {
+        return Some(integer);
+    }
+    if whole(value)? == 0 { Some(0) } else { None }
+}
+
+fn u8_in(value: &JsonValue) -> Option<u8>
+    ensures { SomeWhere (natural_in (view value.now)) (λ n. n < 2 ^ 8) result }
+{
+    u8::try_from(natural(value)?).ok()
+}
+
+fn u16_in(value: &JsonValue) -> Option<u16>
+    ensures { SomeWhere (natural_in (view value.now)) (λ n. n < 2 ^ 16) result }
+{
+    u16::try_from(natural(value)?).ok()
+}
+
+fn u32_in(value: &JsonValue) -> Option<u32>
+    ensures { SomeWhere (natural_in (view value.now)) (λ n. n < 2 ^ 32) result }
+{
+    u32::try_from(natural(value)?).ok()
+}
+
+fn usize_in(value: &JsonValue) -> Option<usize>
+    ensures { SomeWhere (natural_in (view value.now)) (λ n. n < 2 ^ 64) result }
+{
+    usize::try_from(natural(value)?).ok()
+}
+
+fn i8_in(value: &JsonValue) -> Option<i8>
+    ensures { SomeWhere (whole_in (view value.now)) (FitsSigned w8) result }
+{
+    i8::try_from(whole(value)?).ok()
+}
+
+fn i16_in(value: &JsonValue) -> Option<i16>
+    ensures { SomeWhere (whole_in (view value.now)) (FitsSigned w16) result }
+{
+    i16::try_from(whole(value)?).ok()
+}
+
+fn i32_in(value: &JsonValue) -> Option<i32>
+    ensures { SomeWhere (whole_in (view value.now)) (FitsSigned w32) result }
+{
+    i32::try_from(whole(value)?).ok()
+}
+
+fn isize_in(value: &JsonValue) -> Option<isize>
+    ensures { SomeWhere (whole_in (view value.now)) (FitsSigned w64) result }
+{
+    isize::try_from(whole(value)?).ok()
+}
