@@ -5,7 +5,7 @@ use Rattle.std.specs.Option.{option_map_or}
 use Rattle.std.specs.Str.{IsCharBoundary}
 use Rattle.jzon.specs.Fault.{line, column}
 use Rattle.jzon.specs.Writing.{is_whitespace}
-use Rattle.jzon.specs.declared.located.Place.{Place}
+use Rattle.jzon.specs.declared.place.Place.{Place}
 use Rattle.jzon_pointer.specs.declared.locate.Scan.{Scan}
 use Rattle.jzon_pointer.specs.declared.locate.Scan.TheVariants.{Outside, Quoted, Escaped}
 

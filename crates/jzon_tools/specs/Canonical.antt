@@ -8,7 +8,7 @@ use Rattle.jzon.specs.Decimal.{Decimal, nan, parts, is_nan}
 use Rattle.jzon.specs.Fault.{Parses}
 use Rattle.jzon.specs.Grammar.{Document}
 use Rattle.jzon.specs.Meaning.{meaning}
-use Rattle.jzon.specs.Reading.{Reading}
+use Rattle.jzon.specs.Reading.{Reading, strict_exact}
 use Rattle.jzon.specs.Lawful.{IsValue, HasNoNan}
 use Rattle.jzon.specs.Same.{same}
 use Rattle.jzon.specs.SortedStyle.{is_before}
@@ -98,10 +98,6 @@ abbrev mutual
 abbrev pub CanonicalLaw : Type 0
 CanonicalLaw = (v w : Value) → IsValue v → IsValue w → HasNoNan v → HasNoNan w
     → (IsTrue (same v w) → canonical v ≡ canonical w) × (canonical v ≡ canonical w → IsTrue (same v w))
-
--- the strict and exact reading of depth 512
-abbrev pub strict_exact : Reading
-strict_exact = record { strict = true; depth = 512; exact = true }
 
 -- the bytes are the canonical text of what the text means
 abbrev pub IsCanonicalOf : List ℕ → List ℕ → Type 0

@@ -24,7 +24,8 @@ ghost use Rattle.jzon.specs.View.{view, view_object, view_pairs, view_values};
 ghost use Rattle.jzon_tools.specs.Canonical as canonical;
 ghost use Rattle.jzon_tools.specs.ErrorTexts.{canonical_error_kind, canonical_error_text};
 ghost use Rattle.jzon_tools.specs.Canonical.{has_nan, have_nan, normal_number, pointed};
-ghost use Rattle.jzon_tools.specs.Canonical.{sorted_keys, strict_exact, CanonicalLaw, IsCanonicalOf, OneTextLaw};
+ghost use Rattle.jzon.specs.Reading.{strict_exact};
+ghost use Rattle.jzon_tools.specs.Canonical.{sorted_keys, CanonicalLaw, IsCanonicalOf, OneTextLaw};
 
 use jzon::codegen::{DumpGenerator, Generator};
 use jzon::number::Number;
@@ -117,7 +118,7 @@ pub fn of_text(alloc: Global, source: &str) -> Result<String>
     ensures law { OneTextLaw }
     ensures error { IfErr result (IsErrorUnlessMemory strict_exact (chars source.now)) }
 {
-    let value = parse_as(alloc, source, &Reading::STRICT.with_exact_numbers())?;
+    let value = parse_as(alloc, source, &Reading::LOSSLESS)?;
     text_of(alloc, &value).map_err(|_| Error::OutOfMemory)
 }
 

@@ -103,7 +103,3 @@ error_of e = error_at_place e None
 -- the error of a text's error, with its place
 abbrev pub located_decode_error : LocatedError → LocatedDecodeError
 located_decode_error l = record { error = located_error l; place = l.place }
-
--- the strict and exact reading of depth 512
-abbrev pub strict_exact : Reading
-strict_exact = record { strict = true; depth = 512; exact = true }

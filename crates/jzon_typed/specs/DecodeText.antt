@@ -7,7 +7,7 @@ use Rattle.jzon.specs.Error.{Error}
 use Rattle.jzon.specs.Error.TheVariants.{UnexpectedCharacter}
 use Rattle.jzon.specs.ErrorText.{io_kind}
 use Rattle.jzon.specs.ErrorText.{place_text as position_text}
-use Rattle.jzon.specs.declared.located.Place.{Place}
+use Rattle.jzon.specs.declared.place.Place.{Place}
 use Rattle.jzon.specs.Located.{located_text}
 use Rattle.jzon.specs.NumberText.{decimal_text}
 use Rattle.jzon.specs.declared.located.LocatedError.{LocatedError}

@@ -8,7 +8,7 @@ ghost use Rattle.std.specs.Prelude.{chars, IfOk, IfErr};
 ghost use Rattle.jzon.specs.Value.{Value};
 ghost use Rattle.jzon.specs.View.{view};
 ghost use Rattle.jzon_typed.specs.Decode.{IsErrorIn, IsLocatedIn, MeansSome};
-ghost use Rattle.jzon_typed.specs.Decode.{strict_exact};
+ghost use Rattle.jzon.specs.Reading.{strict_exact};
 
 mod error;
 mod fields;
@@ -53,7 +53,7 @@ pub fn from_text<T: FromJson>(alloc: Global, text: &str) -> Result<T, LocatedDec
     ensures value { IfOk result (λ x. MeansSome strict_exact (chars text.now) (λ v. T.gives v x)) }
     ensures error { IfErr result (IsLocatedIn strict_exact text.now) }
 {
-    from_text_as(alloc, text, &Reading::STRICT.with_exact_numbers())
+    from_text_as(alloc, text, &Reading::LOSSLESS)
 }
 
 /// The value that a text means by `reading`, as this type.
