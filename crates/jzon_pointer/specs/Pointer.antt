@@ -3,7 +3,7 @@
 use Rattle.std.specs.Prelude.{◌≡◌, IsErr, ℕ, suc, ◌+◌, ◌^◌, List, [], ◌∷◌, ◌++◌, length, Bool, false, not, ◌&&◌, ◌==◌, nat_lt, if◌then◌else◌}
 use Rattle.std.specs.Prelude.{Option, None, Some, option_and_then, option_map, slice_index, slice_get, slice_set, Result, Ok, Err}
 use Rattle.std.specs.Char.{is_ascii_digit}
-use Rattle.std.specs.List.{list_all, insert, remove}
+use Rattle.std.specs.List.{count_by, list_all, insert, remove}
 use Rattle.std.specs.Option.{is_some, ok_or, option_map_or}
 use Rattle.std.specs.Str.{bytes_eq}
 use Rattle.std.specs.Str.Parse.{digits_value}
@@ -166,3 +166,7 @@ LacksAt v ts w = ((i : ℕ) → IsErr (found i v ts)) × (w ≡ v)
 pub record IsLast (path : List ℕ) (ts : List (List ℕ)) (t : List ℕ) : Type 0 where
   pub tokens : tokens_of path ≡ Some (ts ++ t ∷ [])
   pub entry : (v : Value) → entry_at v path ≡ value_at v path
+
+-- the tokens of a pointer: its slashes
+abbrev pub slashes : List ℕ → ℕ
+slashes path = count_by (λ c. c == 47) path

@@ -15,7 +15,7 @@ use Rattle.std.specs.Option.{is_some, option_map_or}
 use Rattle.std.specs.Str.{bytes_eq}
 use Rattle.jzon.specs.PairList.{find, put, cut, keys_of}
 use Rattle.jzon.specs.Same.{same}
-use Rattle.jzon.specs.SameLaws.{same_at, same_equiv, object-intro}
+use Rattle.jzon.specs.SameLaws.{same_at, same_equiv, object-elim, object-intro}
 use Rattle.jzon.specs.Value.{Value, null, boolean, text, number, array, object, no_values, list_of_values, list_of_pairs, values_of, pairs_of}
 use Rattle.jzon.proofs.PairLaws.{bytes_eq-other, find-put_same, find-put_other, find-cut_same, find-cut_other, distinct-put, distinct-cut}
 use Rattle.jzon.proofs.ValueLaws.{find-viewed, list_of_values-values_of, list_of_pairs-pairs_of}
@@ -27,7 +27,7 @@ use Rattle.jzon_pointer.specs.Pointer.{index_named, token_key, child_of, tokens_
 use Rattle.jzon_tools.proofs.SortedEntries.{apart-sym}
 use Rattle.jzon_pointer.proofs.ChangeLaws.{with_child-same}
 use Rattle.jzon_pointer.proofs.ChildSteps.{key-child}
-use Rattle.jzon_pointer.proofs.EscapedSteps.{pushed-tokens, token_key-escaped}
+use Rattle.jzon_pointer.proofs.EscapedSteps.{token_key-escaped}
 
 -- ---- a child that is put twice
 
@@ -271,7 +271,7 @@ turns-replaced path ts op u w tokens is = λ d h.
     let e = updated-some ts d u w h in
     (e.0, one op d e.0 (is d ∙ ap (option_and_then (updated (λ _. Some w) d)) tokens ∙ e.1), e.1)
 
-turns-changed : (f : Value → List ℕ → Option Value) (path : List ℕ) (ts : List (List ℕ)) (t : List ℕ) (op u w : Value)
+pub turns-changed : (f : Value → List ℕ → Option Value) (path : List ℕ) (ts : List (List ℕ)) (t : List ℕ) (op u w : Value)
     → tokens_of path ≡ Some (ts ++ t ∷ []) → ((d : Value) → operated op d ≡ option_and_then (changed f d) (tokens_of path))
     → f u t ≡ Some w → TurnsAt ts (op ∷ []) u w
 turns-changed f path ts t op u w tokens is at = λ d h.
@@ -282,9 +282,14 @@ turns-changed f path ts t op u w tokens is at = λ d h.
       e.1,
     )
 
-added-below : (w v : Value) (path t : List ℕ) → added_at w v (path ++ 47 ∷ t) ≡ inserted_at w v (path ++ 47 ∷ t)
-added-below w v [] t = refl
-added-below w v (c ∷ cs) t = refl
+added-inside : (w v : Value) (path t : List ℕ) → added_at w v (path ++ 47 ∷ t) ≡ inserted_at w v (path ++ 47 ∷ t)
+added-inside w v [] t = refl
+added-inside w v (c ∷ cs) t = refl
+
+pub added-below : (path t place : List ℕ) (w op : Value) → place ≡ path ++ 47 ∷ t → Adds place w op → (v : Value)
+    → operated op v ≡ inserted_at w v place
+added-below path t place w op is adds v =
+    adds v ∙ ap (added_at w v) is ∙ added-inside w v path t ∙ ap (inserted_at w v) (sym is)
 
 -- ---- the entry of a key
 
@@ -316,9 +321,9 @@ key-cut k qs a h =
 
 -- its value is changed
 pub member-changed : (path k place : List ℕ) (old new : Pairs) (a b : Value) (before after : List Value)
-    → find k old ≡ Some a → find k new ≡ Some b → IsBelow path k place → AddsChanges place a b before after
+    → find k old ≡ Some a → find k new ≡ Some b → IsBelow path (escaped k) place → AddsChanges place a b before after
     → AddsMember path k old new before after
-member-changed path k place old new a b before after there wanted below (ops, is, turns) = (
+member-changed path k place old new a b before after there wanted below (ops, is, turns, none) = (
   ops,
   is,
   λ ts tokens qs distinct at.
@@ -330,6 +335,7 @@ member-changed path k place old new a b before after there wanted below (ops, is
         subst (λ v. TurnsAt ts ops (O qs) v) (key-put k qs t.0)
             (turns-child ts (escaped k) ops (O qs) a t.0 (key-there k qs a (at ∙ there)) t.2),
       ),
+  λ same. none (sym (ap (λ o. same_at o (find k new)) there ∙ ap (same_at (Some a)) wanted) ∙ same),
 )
 
 -- nothing is done
@@ -345,11 +351,13 @@ member-kept path k old new before after equal is = (
     λ j apart. refl,
     turns-none ts (O qs),
   ),
+  λ same. refl,
 )
 
-pub member-added : (path k : List ℕ) (old new : Pairs) (b op : Value) (before after : List Value)
-    → find k new ≡ Some b → Adds path k b op → after ≡ before ++ op ∷ [] → AddsMember path k old new before after
-member-added path k old new b op before after wanted adds is = (
+pub member-added : (path k place : List ℕ) (old new : Pairs) (b op : Value) (before after : List Value)
+    → find k old ≡ None → find k new ≡ Some b → IsBelow path (escaped k) place → Adds place b op
+    → after ≡ before ++ op ∷ [] → AddsMember path k old new before after
+member-added path k place old new b op before after absent wanted below adds is = (
   op ∷ [],
   is,
   λ ts tokens qs distinct at. (
@@ -357,15 +365,16 @@ member-added path k old new b op before after wanted adds is = (
     distinct-put k b qs distinct,
     ap (λ o. same_at o (find k new)) (find-put_same k b qs) ∙ ap (same_at (Some b)) wanted ∙ same_equiv.refl b,
     λ j apart. find-put_other j k b qs apart,
-    turns-changed (with_new b) (path ++ 47 ∷ escaped k) ts (escaped k) op (O qs) (O (put k b qs)) (pushed-tokens path (path ++ 47 ∷ escaped k) k ts refl tokens)
-        (λ d. adds d ∙ added-below b d path (escaped k)) (key-new k qs b),
+    turns-changed (with_new b) place ts (escaped k) op (O qs) (O (put k b qs)) (below.1 ts tokens)
+        (added-below path (escaped k) place b op below.0 adds) (key-new k qs b),
   ),
+  λ same. absurd (false≢true (sym (ap (λ o. same_at o (find k new)) absent ∙ ap (same_at None) wanted) ∙ same)),
 )
 
-pub member-removed : (path k : List ℕ) (old new : Pairs) (a op : Value) (before after : List Value)
-    → find k old ≡ Some a → find k new ≡ None → Removes path k op → after ≡ before ++ op ∷ []
-    → AddsMember path k old new before after
-member-removed path k old new a op before after there unwanted removes is = (
+pub member-removed : (path k place : List ℕ) (old new : Pairs) (a op : Value) (before after : List Value)
+    → find k old ≡ Some a → find k new ≡ None → IsBelow path (escaped k) place → Removes place op
+    → after ≡ before ++ op ∷ [] → AddsMember path k old new before after
+member-removed path k place old new a op before after there unwanted below removes is = (
   op ∷ [],
   is,
   λ ts tokens qs distinct at. (
@@ -373,9 +382,10 @@ member-removed path k old new a op before after there unwanted removes is = (
     distinct-cut k qs distinct,
     ap (λ o. same_at o (find k new)) (find-cut_same k qs distinct) ∙ ap (same_at None) unwanted,
     λ j apart. find-cut_other j k qs apart,
-    turns-changed without (path ++ 47 ∷ escaped k) ts (escaped k) op (O qs) (O (cut k qs)) (pushed-tokens path (path ++ 47 ∷ escaped k) k ts refl tokens)
-        removes (key-cut k qs a (at ∙ there)),
+    turns-changed without place ts (escaped k) op (O qs) (O (cut k qs)) (below.1 ts tokens) removes
+        (key-cut k qs a (at ∙ there)),
   ),
+  λ same. absurd (false≢true (sym (ap (λ o. same_at o (find k new)) there ∙ ap (same_at (Some a)) unwanted) ∙ same)),
 )
 
 -- ---- one entry after the other: those of the keys that are pending are as they were, and the others as they shall be
@@ -385,6 +395,7 @@ Progress path old new P before after = (ops : List Value) × (after ≡ before +
     × ((ts : List (List ℕ)) → tokens_of path ≡ Some ts → (qs : Pairs) × AllPairs (λ i j. i ≢ j) (keys_of qs)
     × ((k : List ℕ) → P k ≡ true → find k qs ≡ find k old)
     × ((k : List ℕ) → P k ≡ false → same_at (find k qs) (find k new) ≡ true) × TurnsAt ts ops (O old) (O qs))
+    × (((k : List ℕ) → same_at (find k old) (find k new) ≡ true) → ops ≡ [])
 
 same-by : (o old new : Option Value) (b : Bool) → (b ≡ true → same_at old new ≡ true) → (b ≡ true → o ≡ old)
     → (b ≡ false → same_at o new ≡ true) → same_at o new ≡ true
@@ -403,6 +414,7 @@ progress-start path old new P before distinct all = (
     λ k h. absurd (false≢true (sym h ∙ all k)),
     turns-none ts (O old),
   ),
+  λ same. refl,
 )
 
 -- fewer are pending, since those that aren't need no change
@@ -410,7 +422,7 @@ pub progress-fewer : (path : List ℕ) (old new : Pairs) (P Q : List ℕ → Boo
     → ((k : List ℕ) → Q k ≡ true → P k ≡ true)
     → ((k : List ℕ) → Q k ≡ false → P k ≡ true → same_at (find k old) (find k new) ≡ true)
     → Progress path old new P before after → Progress path old new Q before after
-progress-fewer path old new P Q before after less equal (ops, is, turns) = (
+progress-fewer path old new P Q before after less equal (ops, is, turns, none) = (
   ops,
   is,
   λ ts tokens.
@@ -421,6 +433,7 @@ progress-fewer path old new P Q before after less equal (ops, is, turns) = (
         λ k h. same-by (find k t.0) (find k old) (find k new) (P k) (equal k h) (t.2 k) (t.3 k),
         t.4,
       ),
+  none,
 )
 
 apart-by : (j k : List ℕ) → bytes_eq j k ≡ false → j ≢ k
@@ -438,7 +451,7 @@ pub progress-next : (path key : List ℕ) (old new : Pairs) (P Q : List ℕ → 
     → P key ≡ true → ((k : List ℕ) → Q k ≡ true → (P k ≡ true) × (k ≢ key))
     → ((k : List ℕ) → Q k ≡ false → k ≢ key → P k ≡ false) → Progress path old new P before mid
     → AddsMember path key old new mid after → Progress path old new Q before after
-progress-next path key old new P Q before mid after pending less rest (xs, is, turns) (ys, next, changes) = (
+progress-next path key old new P Q before mid after pending less rest (xs, is, turns, none) (ys, next, changes, none') = (
   xs ++ ys,
   next ∙ ap (λ l. l ++ ys) is ∙ append_assoc before xs ys,
   λ ts tokens.
@@ -451,11 +464,12 @@ progress-next path key old new P Q before mid after pending less rest (xs, is, t
             (λ apart. ap (λ o. same_at o (find k new)) (c.3 k apart) ∙ t.3 k (rest k h apart)),
         turns-both ts xs ys (O old) (O t.0) (O c.0) t.4 c.4,
       ),
+  λ same. ap (λ l. l ++ ys) (none same) ∙ none' (same key),
 )
 
 pub progress-end : (path : List ℕ) (old new : Pairs) (P : List ℕ → Bool) (before after : List Value)
     → ((k : List ℕ) → P k ≡ false) → Progress path old new P before after → AddsChanges path (O old) (O new) before after
-progress-end path old new P before after none (ops, is, turns) = (
+progress-end path old new P before after settled (ops, is, turns, none) = (
   ops,
   is,
   λ ts tokens.
@@ -463,9 +477,13 @@ progress-end path old new P before after none (ops, is, turns) = (
         O t.0,
         object-intro (pairs_of t.0) (pairs_of new) (λ k.
             ap (λ l. same_at (find k l) (find k (list_of_pairs (pairs_of new)))) (list_of_pairs-pairs_of t.0)
-            ∙ ap (λ l. same_at (find k t.0) (find k l)) (list_of_pairs-pairs_of new) ∙ t.3 k (none k)),
+            ∙ ap (λ l. same_at (find k t.0) (find k l)) (list_of_pairs-pairs_of new) ∙ t.3 k (settled k)),
         t.4,
       ),
+  λ same. none (λ k.
+      ap (λ l. same_at (find k l) (find k new)) (sym (list_of_pairs-pairs_of old))
+      ∙ ap (λ l. same_at (find k (list_of_pairs (pairs_of old))) (find k l)) (sym (list_of_pairs-pairs_of new))
+      ∙ object-elim (pairs_of old) (pairs_of new) same k),
 )
 
 -- ---- the keys of the old entries, and then those of the new ones that aren't among them
@@ -684,15 +702,16 @@ on_ok (Err e) f h = h
 
 pub changes-none : (path : List ℕ) (u v : Value) (before after : List Value) → same u v ≡ true → after ≡ before
     → AddsChanges path u v before after
-changes-none path u v before after equal is = ([], is ∙ sym (append-nil before), λ ts tokens. (u, equal, turns-none ts u))
+changes-none path u v before after equal is =
+    ([], is ∙ sym (append-nil before), λ ts tokens. (u, equal, turns-none ts u), λ same. refl)
 
-pub changes-replaced : (path : List ℕ) (u v op : Value) (before after : List Value) → Replaces path v op
-    → after ≡ before ++ op ∷ [] → AddsChanges path u v before after
-changes-replaced path u v op before after replaces is = (
+pub changes-replaced : (path : List ℕ) (u v op : Value) (before after : List Value) → same u v ≡ false
+    → Replaces path v op → after ≡ before ++ op ∷ [] → AddsChanges path u v before after
+changes-replaced path u v op before after differ replaces is = (
   op ∷ [],
   is,
-  λ ts tokens.
-      (v, same_equiv.refl v, turns-replaced path ts op u v tokens replaces),
+  λ ts tokens. (v, same_equiv.refl v, turns-replaced path ts op u v tokens replaces),
+  λ same. absurd (false≢true (sym differ ∙ same)),
 )
 
 pub objects-empty : (ps qs : List (List ℕ × JsonValue)) → length ps ≡ 0 → length qs ≡ 0
@@ -717,10 +736,15 @@ pub rest-there : (key : List ℕ) (keys rest : List (List ℕ)) (old : Pairs) �
 rest-there key keys rest old next all k h =
     all k (ap (λ l. is_among l k) next ∙ or-right (bytes_eq key k) (is_among rest k) h)
 
+-- equal values are turned by no operation
+pub unchanged : (old new : Value) (ops : List Value) (p : Value) → p ≡ array (values_of ops) → AddsChanges [] old new [] ops
+    → same old new ≡ true → p ≡ array no_values
+unchanged old new ops p is (xs, all, turns, none) same = is ∙ ap (λ l. array (values_of l)) (all ∙ none same)
+
 -- the old value is turned into one that is equal to the new one
 pub turned : (old new : Value) (ops : List Value) (p : Value) → p ≡ array (values_of ops) → AddsChanges [] old new [] ops
     → TurnsInto old new p
-turned old new ops p is (xs, all, turns) =
+turned old new ops p is (xs, all, turns, none) =
     let t = turns [] refl in
     let e = t.2 old refl in
     (t.0, ap (λ q. applied q old) is ∙ ap (λ l. applied_each (values_of l) old) all ∙ e.1 ∙ sym e.2, t.1)

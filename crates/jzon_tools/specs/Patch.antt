@@ -1,7 +1,7 @@
 -- What a patch makes of a value (RFC 6902).
 use Rattle.std.specs.Prelude.{ℕ, suc, List, [], ◌∷◌, ◌+◌, ◌-◌, ◌<◌, length, nat_lt, nat_le, ◌==◌, ◌&&◌, slice_index, nat_eq, Bool, false, true, codes, if◌then◌else◌}
 use Rattle.std.specs.Prelude.{◌≡◌, ◌⊎◌, ⊤, Result, Ok, Err, Option, None, Some, option_and_then, option_map}
-use Rattle.std.specs.List.{count_by, starts_with}
+use Rattle.std.specs.List.{starts_with}
 use Rattle.std.specs.Option.{option_map_or}
 use Rattle.std.specs.Result.{result_ok}
 use Rattle.std.specs.Str.{bytes_eq}
@@ -9,7 +9,7 @@ use Rattle.jzon.specs.PairList.{find}
 use Rattle.jzon.specs.Readers.{entries, is_object, text_in}
 use Rattle.jzon.specs.Same.{same}
 use Rattle.jzon.specs.Value.{Value, array, Values, no_values, value, nest}
-use Rattle.jzon_pointer.specs.Pointer.{value_at, entry_at, inserted_at, removed_at, updated_at}
+use Rattle.jzon_pointer.specs.Pointer.{value_at, entry_at, inserted_at, removed_at, updated_at, slashes}
 use Rattle.jzon_tools.specs.Weight.{weight}
 use Rattle.jzon_tools.specs.declared.patch.Cause.{Cause}
 use Rattle.jzon_tools.specs.declared.patch.Cause.TheVariants.{NotAnArray, NotAnObject, Missing, NotAString, UnknownOp}
@@ -101,10 +101,6 @@ applied (array ops) v = applied_each ops v
 applied _ v = None
 
 -- ---- limits
-
--- the tokens of a pointer: its slashes
-abbrev pub slashes : List ℕ → ℕ
-slashes path = count_by (λ c. c == 47) path
 
 -- what an operation with this meaning puts at its `path`
 abbrev pub placed_by : Op → Value → Value → Option Value

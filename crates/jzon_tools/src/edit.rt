@@ -4,15 +4,16 @@
 //! inside a value, but not what is written through a returned reference. Where it finds nothing,
 //! nothing was changed, and `find` then says why.
 
-ghost use Rattle.std.specs.Prelude.{◌≡◌, ◌≤◌, ◌⊎◌, ◌∷◌, ℕ, List, OnOk, OnErr, IfOk, IfErr, IfSome, IsErr, Ok, Err, None, Some, false, if◌then◌else◌, map, option_map};
+ghost use Rattle.std.specs.Prelude.{◌≡◌, ◌≤◌, ◌+◌, ◌⊎◌, ◌∷◌, ℕ, max, nat_le, List, OnOk, OnErr, IfOk, IfErr, IfSome, IsErr, Ok, Err, None, Some, false, if◌then◌else◌, map, option_map};
 ghost use Rattle.std.specs.Fn.{FnOnceReturnsAtMut};
 ghost use Rattle.std.specs.Option.{option_copied};
 ghost use Rattle.jzon.specs.JsonValue.{JsonValue as Json};
-ghost use Rattle.jzon.specs.Value.{Value, array, values_of};
+ghost use Rattle.jzon.specs.Value.{Value, array, nest, values_of};
 ghost use Rattle.jzon.specs.View.{view, view_object};
-ghost use Rattle.jzon_pointer.specs.Pointer.{child_of, entry_at, inserted_at, new_index, removed_at, tokens_left, updated_at, value_at, with_new, without, ChangesAt, IsLast, LacksAt};
+ghost use Rattle.jzon_pointer.specs.Pointer.{child_of, entry_at, inserted_at, new_index, removed_at, slashes, tokens_left, updated_at, value_at, with_new, without, ChangesAt, IsLast, LacksAt};
 ghost use Rattle.jzon_pointer.specs.declared.pointer.PointerError.TheVariants.{OutOfMemory};
 
+use crate::weight;
 use jzon::JsonValue;
 use jzon::object::Object;
 use jzon_pointer::token::{after_slash, first_token, index_of, is_plain, key_of, position_of};
@@ -47,11 +48,14 @@ pub fn update<R, F: FnOnce(&mut JsonValue) -> R>(
     }
 }
 
-/// Puts a new value in the place of the one that a pointer names, and returns the old one.
+/// Puts a new value in the place of the one that a pointer names, and returns the old one. `nests_within`
+/// says beforehand how deep the new one is then.
 pub fn replace(value: &mut JsonValue, path: &str, new: JsonValue) -> Result<JsonValue, PointerError>
     ensures old { IfOk result (λ old. value_at (view value.old) path.now ≡ Ok (view old)) }
     ensures new { OnOk result (updated_at (λ _. Some (view new)) (view value.old) path.now
         ≡ Some (view value.new)) }
+    ensures depth { OnOk result (nest (view value.new)
+        ≤ max (nest (view value.old)) (slashes path.now + nest (view new))) }
     ensures err { OnErr result (view value.new ≡ view value.old) }
     ensures error { IfErr result (λ e. value_at (view value.old) path.now ≡ Err e) }
 {
@@ -62,7 +66,7 @@ pub fn replace(value: &mut JsonValue, path: &str, new: JsonValue) -> Result<Json
 /// before the element of this index. At `-`, and at the array's length, it becomes the last element.
 ///
 /// **A key that is present is overwritten**: its old value is dropped. An array's elements from the
-/// index on move up.
+/// index on move up. Below a stranger's pointer a value may become too deep: ask `nests_within` before.
 pub fn insert(
     alloc: Global,
     value: &mut JsonValue,
@@ -71,6 +75,8 @@ pub fn insert(
 ) -> Result<(), PointerError>
     ensures ok { OnOk result (inserted_at (view new) (view value.old) path.now
         ≡ Some (view value.new)) }
+    ensures depth { OnOk result (nest (view value.new)
+        ≤ max (nest (view value.old)) (slashes path.now + nest (view new))) }
     ensures err { OnErr result (view value.new ≡ view value.old) }
     ensures error { IfErr result (λ e. (e ≡ OutOfMemory)
         ⊎ ((inserted_at (view new) (view value.old) path.now ≡ None)
@@ -83,6 +89,21 @@ pub fn insert(
         Some(Ok(false)) => Err(why_none(value, path)),
         None => Err(why_none(value, path)),
     }
+}
+
+/// Whether a new value at a pointer, with the containers around it, nests at most so deep: with 512 what
+/// `parse` reads back. Looks at no more of the value than that.
+///
+/// ```rust
+/// if edit::nests_within(path, &new, 512) {
+///     edit::insert(alloc, &mut config, path, new)?;
+/// }
+/// ```
+pub fn nests_within(path: &str, new: &JsonValue, depth: usize) -> bool
+    ensures { result ≡ nat_le (slashes path.now + nest (view new.now)) depth }
+{
+    let around = path.bytes().filter(|byte| *byte == b'/').count();
+    around <= depth && weight::nests_within(new, depth - around)
 }
 
 /// Removes the entry or the element that a pointer names, and returns its value.

@@ -5,8 +5,9 @@
 //! then replaces the value: so an error leaves the value as it was. `merge`, `merge_members` and
 //! `merge_member` call one another; proofs/merge/+merge says what gets smaller: the size of the patch.
 
-ghost use Rattle.std.specs.Prelude.{◌≡◌, OnOk, OnErr, IsOkUnless, true, false};
+ghost use Rattle.std.specs.Prelude.{◌≡◌, ◌≤◌, OnOk, OnErr, IsOkUnless, max, true, false};
 ghost use Rattle.jzon.specs.Entries.{entries_of};
+ghost use Rattle.jzon.specs.Value.{nest};
 ghost use Rattle.jzon.specs.View.{view, viewed, view_pairs};
 ghost use Rattle.jzon_tools.specs.Merge.{merged, merged_pairs, merged_pair};
 
@@ -16,13 +17,16 @@ use std::alloc::Global;
 
 /// Applies a merge patch (RFC 7396): an entry of the patch that is null removes the target's, any
 /// other is put into it, and objects are merged at every depth. A patch that is no object replaces
-/// the target. Takes the time and memory of a clone of both.
+/// the target. Nests no deeper than both did. Takes the time and memory of a clone of both.
 ///
 /// ```rust
 /// merge_patch(alloc, &mut target, &patch)?;
 /// ```
+#[tactic(auto, using(crate::proofs::MergeDepth::merged_depth))]
 pub fn merge_patch(alloc: Global, target: &mut JsonValue, patch: &JsonValue) -> Result<()>
     ensures ok { OnOk result (view target.new ≡ merged true (view target.old) (view patch.now)) }
+    ensures depth { OnOk result
+        (nest (view target.new) ≤ max (nest (view target.old)) (nest (view patch.now))) }
     ensures err { OnErr result (target.new ≡ target.old) }
     ensures memory { IsOkUnless result Error.OutOfMemory }
 {
@@ -33,9 +37,12 @@ pub fn merge_patch(alloc: Global, target: &mut JsonValue, patch: &JsonValue) -> 
 }
 
 /// Puts the entries of a later layer over those of a base, at every depth. Unlike in a merge patch,
-/// null is a value. Takes the time and memory of a clone of both.
+/// null is a value. Nests no deeper than both did. Takes the time and memory of a clone of both.
+#[tactic(auto, using(crate::proofs::MergeDepth::merged_depth))]
 pub fn layer(alloc: Global, base: &mut JsonValue, later: &JsonValue) -> Result<()>
     ensures ok { OnOk result (view base.new ≡ merged false (view base.old) (view later.now)) }
+    ensures depth { OnOk result
+        (nest (view base.new) ≤ max (nest (view base.old)) (nest (view later.now))) }
     ensures err { OnErr result (base.new ≡ base.old) }
     ensures memory { IsOkUnless result Error.OutOfMemory }
 {

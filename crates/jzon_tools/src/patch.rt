@@ -14,9 +14,9 @@ ghost use Rattle.std.specs.Option.{option_map_or};
 ghost use Rattle.jzon.specs.Value.{Value, nest};
 ghost use Rattle.jzon.specs.View.{view};
 ghost use Rattle.jzon_tools.specs.ErrorTexts.{cause_text, patch_error_kind, patch_error_text, shown_text};
-ghost use Rattle.jzon_tools.specs.Patch.{added_at, applied, applied_within, copied_by, depth_by, entry_of, first_undone, has_value, is_below, is_refusal, is_within, left_after, moved_at, operated, operated_by, slashes, tested_at, text_at, usual, value_of, IsBackup, IsCause, IsCauseOf, IsDone, IsLookup, IsText, Takes};
+ghost use Rattle.jzon_tools.specs.Patch.{added_at, applied, applied_within, copied_by, depth_by, entry_of, first_undone, has_value, is_below, is_refusal, is_within, left_after, moved_at, operated, operated_by, tested_at, text_at, usual, value_of, IsBackup, IsCause, IsCauseOf, IsDone, IsLookup, IsText, Takes};
 ghost use Rattle.jzon_tools.specs.Patch as meaning;
-ghost use Rattle.jzon_pointer.specs.Pointer.{entry_at, removed_at, updated_at};
+ghost use Rattle.jzon_pointer.specs.Pointer.{entry_at, removed_at, updated_at, slashes};
 ghost use Rattle.jzon_tools.specs.declared.patch.Cause.TheVariants.{OutOfMemory, TooDeep, TooLarge};
 ghost use Rattle.jzon_tools.specs.declared.patch.Limits.{Limits as Within};
 ghost use Rattle.jzon_tools.specs.declared.patch.Op.TheVariants as ops;
@@ -25,7 +25,7 @@ ghost use Rattle.jzon_pointer.specs.declared.pointer.PointerError.TheVariants as
 mod changes;
 
 use crate::edit;
-use crate::weight::{nests_within, weigh};
+use crate::weight::weigh;
 pub use changes::diff;
 use jzon::{JsonValue, io_error};
 use jzon_pointer::shown::ShownPointer;
@@ -399,8 +399,7 @@ fn admit(path: &str, new: &JsonValue, depth: usize) -> Result<(), Cause>
     ensures err { IfErr result (λ e. (e ≡ TooDeep)
         × (depth < slashes path.now + nest (view new.now))) }
 {
-    let around = path.bytes().filter(|byte| *byte == b'/').count();
-    if around <= depth && nests_within(new, depth - around) {
+    if edit::nests_within(path, new, depth) {
         Ok(())
     } else {
         Err(Cause::TooDeep)

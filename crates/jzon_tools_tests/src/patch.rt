@@ -7,6 +7,7 @@ use jzon_pointer::Primitive;
 use jzon_pointer::Reason::{NoChildren, NoMember, NotAnIndex, OutOfRange};
 use jzon_test_support::{RUNS_MAX, Refusals, joined, rows};
 use jzon_tools::patch::{self, Cause, Limits, PatchError};
+use jzon_tools::edit;
 use std::io;
 use std::test::Fail;
 
@@ -368,7 +369,12 @@ const DIFFS: &[(&str, &str, &str)] = rows! {
     (r#"{"a":1,"b":2}"#, r#"{"b":3,"c":4}"#, r#"[{"op":"remove","path":"/a"},{"op":"replace","path":"/b","value":3},{"op":"add","path":"/c","value":4}]"#)
     (r#"{"a/~b":{"":{"x":1}}}"#, r#"{"a/~b":{"":{"x":2}}}"#, r#"[{"op":"replace","path":"/a~1~0b//x","value":2}]"#)
     (r#"{"a":{}}"#, r#"{"a":[]}"#, r#"[{"op":"replace","path":"/a","value":[]}]"#)
-    (r#"{"a":[1,2]}"#, r#"{"a":[1,3]}"#, r#"[{"op":"replace","path":"/a","value":[1,3]}]"#)
+    (r#"{"a":[1,2]}"#, r#"{"a":[1,3]}"#, r#"[{"op":"replace","path":"/a/1","value":3}]"#)
+    ("[1,2,3,4]", "[1,5,4]", r#"[{"op":"replace","path":"/1","value":5},{"op":"remove","path":"/2"}]"#)
+    ("[1,2,9]", "[1,3,4,5,9]", r#"[{"op":"replace","path":"/1","value":3},{"op":"add","path":"/2","value":4},{"op":"add","path":"/3","value":5}]"#)
+    ("[1,1]", "[1,1,1]", r#"[{"op":"add","path":"/2","value":1}]"#)
+    ("[1,2,3]", "[]", r#"[{"op":"remove","path":"/0"},{"op":"remove","path":"/0"},{"op":"remove","path":"/0"}]"#)
+    (r#"[[1,{"a":[[2],3]}]]"#, r#"[[1.0,{"a":[[4],3]}]]"#, r#"[{"op":"replace","path":"/0/1/a/0/0","value":4}]"#)
     (r#"{"a":{"b":1}}"#, r#"{}"#, r#"[{"op":"remove","path":"/a"}]"#)
     (r#"{}"#, r#"{"a":{"b":1}}"#, r#"[{"op":"add","path":"/a","value":{"b":1}}]"#)
     (r#"{"a":null}"#, r#"{"a":{"b":null}}"#, r#"[{"op":"replace","path":"/a","value":{"b":null}}]"#)
@@ -390,3 +396,60 @@ fn turns_one_value_into_another(rt: HostRuntime) -> Tested {
     }
     Ok(())
 }
+
+/// Below a path of 512 bytes a value is changed, at a longer one it is replaced.
+#[test]
+fn replaces_at_long_paths(rt: HostRuntime) -> Tested {
+    for (length, changed) in LONG {
+        let key = "k".repeat(rt.alloc(), *length)?;
+        let path = format!(in rt.alloc(); "/{key}{changed}")?;
+        let mut old = JsonValue::new_object(rt.alloc());
+        let mut new = JsonValue::new_object(rt.alloc());
+        old.insert(
+            rt.alloc(),
+            key.as_str(),
+            jzon::parse(rt.alloc(), r#"{"a":1,"b":2}"#)?,
+        )?;
+        new.insert(
+            rt.alloc(),
+            key.as_str(),
+            jzon::parse(rt.alloc(), r#"{"a":1,"b":3}"#)?,
+        )?;
+        let patch = patch::diff(rt.alloc(), &old, &new)?;
+        expect(&rt, changed, patch.len() == 1);
+        expect(
+            &rt,
+            changed,
+            patch.at_index(0).at("path").eq_str(path.as_str()),
+        );
+    }
+    Ok(())
+}
+
+/// The length of a key, and what is changed below its path.
+const LONG: &[(usize, &str)] = rows! {
+    (511, "/b")
+    (512, "")
+};
+
+/// The containers around a new value count, and an empty container doesn't.
+#[test]
+fn counts_the_containers_around(rt: HostRuntime) -> Tested {
+    let new = jzon::parse(rt.alloc(), "[[1],{}]")?;
+    for (path, depth, fits) in ROOM {
+        expect(
+            &rt,
+            path,
+            edit::nests_within(path, &new, *depth) == *fits,
+        );
+    }
+    Ok(())
+}
+
+/// A pointer, a depth, and whether `[[1],{}]` is within it there.
+const ROOM: &[(&str, usize, bool)] = rows! {
+    ("", 2, true)
+    ("", 1, false)
+    ("/a/-", 4, true)
+    ("/a/-", 3, false)
+};

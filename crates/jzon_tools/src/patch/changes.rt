@@ -1,23 +1,33 @@
 //! The patch that turns one value into another.
 //!
-//! `add_changes`, `add_members` and `add_member` call one another; proofs/patch/changes/+diff says what
-//! gets smaller: the size of the old value.
+//! `value`, `members`, `member`, `elements`, `changed` and `element` call one another;
+//! proofs/patch/changes/Changes/+diff says what gets smaller: the size of the old value.
 
-ghost use Rattle.std.specs.Prelude.{◌≡◌, IfOk, OnOk, IsOkUnless, map, string_bytes, true};
+ghost use Rattle.std.specs.Prelude.{◌≡◌, ◌≤◌, ◌+◌, ◌-◌, ◌<◌, ◌++◌, ◌∷◌, [], ℕ, IfOk, OnOk, IsOkUnless, drop, length, map, string_bytes, take, true};
+ghost use Rattle.std.specs.Fmt.{decimal};
+ghost use Rattle.std.specs.Option.{option_copied};
 ghost use Rattle.jzon.specs.Entries.{entries_of};
-ghost use Rattle.jzon.specs.Same.{same};
-ghost use Rattle.jzon.specs.Value.{array, no_values};
+ghost use Rattle.jzon.specs.PairList.{find};
+ghost use Rattle.jzon.specs.Same.{same, same_items};
+ghost use Rattle.jzon.specs.Value.{Value, array, no_values, values_of};
 ghost use Rattle.jzon.specs.View.{view, viewed, view_object};
-ghost use Rattle.jzon_tools.specs.Diff.{IsBelow, AddsChanges, AddsMember, Adds, Replaces, Removes, TurnsInto};
+ghost use Rattle.jzon_tools.specs.Diff.{AddsChanges, AddsElements, AddsMember, Adds, AllSame, IsBelow, Removes, Replaces, TurnsInto, operations_of};
+ghost use Rattle.jzon_pointer.specs.Escaped.{escaped};
 
 use jzon::object::Object;
 use jzon::{Error, JsonValue, Result};
 use jzon_pointer::push_token;
 use std::alloc::Global;
 
-/// A patch (RFC 6902) that turns the old value into one that is equal to the new one. Objects are
-/// compared entry by entry, at each depth; anything else that differs is replaced. Values that are
-/// equal give `[]`.
+/// A patch (RFC 6902) that turns the old value into one that is equal to the new one; `[]` if they
+/// are equal. Objects are compared key by key, and arrays index by index, at each depth; of arrays of
+/// different lengths the equal elements at the beginning and at the end are left as they are, and
+/// what is between is changed, and then cut or added to. Anything else that differs is replaced, as
+/// are values at a path of more than 512 bytes.
+///
+/// Takes time in proportion to both values, and memory for the patch: at most about 700 bytes for each
+/// operation, beside the new values and the keys that it has. Goes at most 513 levels deep;
+/// below, it only compares and clones.
 ///
 /// ```rust
 /// let patch = patch::diff(alloc, &old, &new)?;
@@ -29,104 +39,298 @@ pub fn diff(alloc: Global, old: &JsonValue, new: &JsonValue) -> Result<JsonValue
         → IfOk result (λ p. view p ≡ array no_values) }
     ensures memory { IsOkUnless result Error.OutOfMemory }
 {
-    let mut operations = Vec::new(alloc);
-    if old != new {
-        add_changes(alloc, "", old, new, &mut operations)?;
-    }
-    Ok(JsonValue::Array(operations))
+    let mut changes = Changes {
+        alloc,
+        path: String::new(alloc),
+        operations: Vec::new(alloc),
+    };
+    changes.value(old, new, false)?;
+    Ok(JsonValue::Array(changes.operations))
 }
 
-/// Adds the operations that turn the value at the path into the new one.
-#[cycle(diff)]
-fn add_changes(
+/// Values at a longer path are replaced as a whole: else a patch could be as large as a long key times
+/// the number of changes below it.
+const LONGEST_PATH: usize = 512;
+
+/// The operations so far, and the path of the values that are compared.
+#[derive(Drop)]
+struct Changes {
     alloc: Global,
-    path: &str,
-    old: &JsonValue,
-    new: &JsonValue,
-    operations: &mut Vec<JsonValue>,
-) -> Result<()>
-    ensures ok { OnOk result (AddsChanges path.now (view old.now) (view new.now)
-        (map view operations.old.items) (map view operations.new.items)) }
-    ensures memory { IsOkUnless result Error.OutOfMemory }
-{
-    if let (JsonValue::Object(from), JsonValue::Object(to)) = (old, new) {
-        return add_members(alloc, path, from, to, operations);
-    }
-    if old != new {
-        operations.push(replacing(alloc, path, new)?)?;
-    }
-    Ok(())
+    path: String,
+    operations: Vec<JsonValue>,
 }
 
-#[cycle(diff)]
-fn add_members(
-    alloc: Global,
-    path: &str,
-    from: &Object,
-    to: &Object,
-    operations: &mut Vec<JsonValue>,
-) -> Result<()>
-    ensures ok { OnOk result (AddsChanges path.now (view_object from.now) (view_object to.now)
-        (map view operations.old.items) (map view operations.new.items)) }
-    ensures memory { IsOkUnless result Error.OutOfMemory }
-{
-    if from.len().max(to.len()) == 0 {
-        return Ok(());
-    }
-    for key in from.keys() {
-        add_member(alloc, path, key, from, to, operations)?;
-    }
-    for added in to.keys() {
-        if !from.contains_key(added) {
-            add_member(alloc, path, added, from, to, operations)?;
+impl Changes {
+    /// Adds the operations that turn the value at the path into the new one. Elements of arrays are
+    /// compared as a whole first, but only once: not if they are parts of values that were compared.
+    #[cycle(diff)]
+    fn value(&mut self, old: &JsonValue, new: &JsonValue, compared: bool) -> Result<()>
+        ensures ok { OnOk result (AddsChanges (string_bytes self.old.path) (view old.now)
+            (view new.now) (operations_of self.old) (operations_of self.new)) }
+        ensures path { OnOk result (string_bytes self.new.path ≡ string_bytes self.old.path) }
+        ensures memory { IsOkUnless result Error.OutOfMemory }
+    {
+        if self.path.len() > LONGEST_PATH {
+            return self.whole(old, new);
+        }
+        match (old, new) {
+            (JsonValue::Object(from), JsonValue::Object(to)) => self.members(from, to, compared),
+            (JsonValue::Array(from), JsonValue::Array(to)) => self.elements(from, to, compared),
+            _ => self.whole(old, new),
         }
     }
-    Ok(())
-}
 
-/// Adds the operations that change the entry of a key.
-#[cycle(diff)]
-fn add_member(
-    alloc: Global,
-    path: &str,
-    key: &str,
-    from: &Object,
-    to: &Object,
-    operations: &mut Vec<JsonValue>,
-) -> Result<()>
-    ensures ok { OnOk result (AddsMember path.now key.now (viewed (entries_of from.now))
-        (viewed (entries_of to.now)) (map view operations.old.items) (map view operations.new.items)) }
-    ensures memory { IsOkUnless result Error.OutOfMemory }
-{
-    match (from.get(key), to.get(key)) {
-        (Some(old), Some(new)) => {
-            if !new.is_object() && old == new {
+    /// Adds the replacement of a value by one that differs, as a whole.
+    fn whole(&mut self, old: &JsonValue, new: &JsonValue) -> Result<()>
+        ensures ok { OnOk result (AddsChanges (string_bytes self.old.path) (view old.now)
+            (view new.now) (operations_of self.old) (operations_of self.new)) }
+        ensures path { OnOk result (string_bytes self.new.path ≡ string_bytes self.old.path) }
+        ensures memory { IsOkUnless result Error.OutOfMemory }
+    {
+        if old != new {
+            let operation = replacing(self.alloc, self.path.as_str(), new)?;
+            self.operations.push(operation)?;
+        }
+        Ok(())
+    }
+
+    #[cycle(diff)]
+    fn members(&mut self, from: &Object, to: &Object, compared: bool) -> Result<()>
+        ensures ok { OnOk result (AddsChanges (string_bytes self.old.path) (view_object from.now)
+            (view_object to.now) (operations_of self.old) (operations_of self.new)) }
+        ensures path { OnOk result (string_bytes self.new.path ≡ string_bytes self.old.path) }
+        ensures memory { IsOkUnless result Error.OutOfMemory }
+    {
+        if from.len().max(to.len()) == 0 {
+            return Ok(());
+        }
+        for key in from.keys() {
+            self.member(key, from, to, compared)?;
+        }
+        for added in to.keys() {
+            if !from.contains_key(added) {
+                self.member(added, from, to, compared)?;
+            }
+        }
+        Ok(())
+    }
+
+    /// Adds the operations that change the entry of a key.
+    #[cycle(diff)]
+    fn member(&mut self, key: &str, from: &Object, to: &Object, compared: bool) -> Result<()>
+        ensures ok { OnOk result (AddsMember (string_bytes self.old.path) key.now
+            (viewed (entries_of from.now)) (viewed (entries_of to.now))
+            (operations_of self.old) (operations_of self.new)) }
+        ensures path { OnOk result (string_bytes self.new.path ≡ string_bytes self.old.path) }
+        ensures memory { IsOkUnless result Error.OutOfMemory }
+    {
+        let (old, new) = (from.get(key), to.get(key));
+        if let (Some(old), Some(new)) = (old, new) {
+            if is_primitive(new) && old == new {
                 return Ok(());
             }
-            let place = below(alloc, path, key)?;
-            add_changes(alloc, place.as_str(), old, new, operations)
         }
-        (None, Some(new)) => {
-            operations.push(adding(alloc, path, key, new)?)?;
-            Ok(())
+        let length = self.path.len();
+        push_token(&mut self.path, key)?;
+        match (old, new) {
+            (Some(old), Some(new)) => self.value(old, new, compared)?,
+            (None, Some(new)) => self.add(new)?,
+            (Some(_old), None) => self.remove()?,
+            (None, None) => {}
         }
-        (Some(_old), None) => {
-            operations.push(removing(alloc, path, key)?)?;
-            Ok(())
+        self.path.truncate(length);
+        Ok(())
+    }
+
+    #[cycle(diff)]
+    fn elements(&mut self, from: &[JsonValue], to: &[JsonValue], compared: bool) -> Result<()>
+        ensures ok { OnOk result (AddsChanges (string_bytes self.old.path)
+            (array (values_of (map view from.now))) (array (values_of (map view to.now)))
+            (operations_of self.old) (operations_of self.new)) }
+        ensures path { OnOk result (string_bytes self.new.path ≡ string_bytes self.old.path) }
+        ensures memory { IsOkUnless result Error.OutOfMemory }
+    {
+        let (start, kept) = common(from, to);
+        let both = from.len().min(to.len()) - kept;
+        self.change(from, to, start, both, compared)?;
+        self.cut(from, to, both, from.len() - kept)?;
+        self.extend(from, to, both, to.len() - kept)
+    }
+
+    /// Adds the operations that change the elements from one index to another.
+    #[cycle(diff)]
+    fn change(
+        &mut self,
+        from: &[JsonValue],
+        to: &[JsonValue],
+        start: usize,
+        end: usize,
+        compared: bool,
+    ) -> Result<()>
+        requires range { (start ≤ end) × (end ≤ length from.now) × (end ≤ length to.now) }
+        ensures ok { OnOk result (AddsElements (string_bytes self.old.path) (map view from.now)
+            (map view to.now) (start, start) (end, end) (operations_of self.old)
+            (operations_of self.new)) }
+        ensures path { OnOk result (string_bytes self.new.path ≡ string_bytes self.old.path) }
+        ensures memory { IsOkUnless result Error.OutOfMemory }
+    {
+        for index in start..end {
+            self.element(from, to, index, compared)?;
         }
-        (None, None) => Ok(()),
+        Ok(())
+    }
+
+    #[cycle(diff)]
+    fn element(
+        &mut self,
+        from: &[JsonValue],
+        to: &[JsonValue],
+        index: usize,
+        compared: bool,
+    ) -> Result<()>
+        requires index { (index < length from.now) × (index < length to.now) }
+        ensures ok { OnOk result (AddsElements (string_bytes self.old.path) (map view from.now)
+            (map view to.now) (index, index) (index + 1, index + 1) (operations_of self.old)
+            (operations_of self.new)) }
+        ensures path { OnOk result (string_bytes self.new.path ≡ string_bytes self.old.path) }
+        ensures memory { IsOkUnless result Error.OutOfMemory }
+    {
+        let (old, new) = (&from[index], &to[index]);
+        if (!compared || is_primitive(new)) && old == new {
+            return Ok(());
+        }
+        let length = self.path.len();
+        push_index(&mut self.path, index)?;
+        self.value(old, new, true)?;
+        self.path.truncate(length);
+        Ok(())
+    }
+
+    /// Adds the operations that remove the elements from one index to another.
+    fn cut(&mut self, from: &[JsonValue], to: &[JsonValue], start: usize, end: usize) -> Result<()>
+        requires range { (start ≤ end) × (end ≤ length from.now) × (start ≤ length to.now) }
+        requires shorter { start < end → length to.now < length from.now }
+        ensures ok { OnOk result (AddsElements (string_bytes self.old.path) (map view from.now)
+            (map view to.now) (start, start) (start, end) (operations_of self.old)
+            (operations_of self.new)) }
+        ensures path { OnOk result (string_bytes self.new.path ≡ string_bytes self.old.path) }
+        ensures memory { IsOkUnless result Error.OutOfMemory }
+    {
+        let length = self.path.len();
+        for index in start..end {
+            push_index(&mut self.path, start)?;
+            self.remove()?;
+            self.path.truncate(length);
+        }
+        Ok(())
+    }
+
+    /// Adds the operations that add the new elements from one index to another.
+    fn extend(
+        &mut self,
+        from: &[JsonValue],
+        to: &[JsonValue],
+        start: usize,
+        end: usize,
+    ) -> Result<()>
+        requires range { (start ≤ end) × (end ≤ length to.now) }
+        requires longer { start < end → length from.now < length to.now }
+        ensures ok { OnOk result ((rest : ℕ) → rest ≤ length from.now
+            → AddsElements (string_bytes self.old.path) (map view from.now) (map view to.now)
+            (start, rest) (end, rest) (operations_of self.old) (operations_of self.new)) }
+        ensures path { OnOk result (string_bytes self.new.path ≡ string_bytes self.old.path) }
+        ensures memory { IsOkUnless result Error.OutOfMemory }
+    {
+        let length = self.path.len();
+        for index in start..end {
+            push_index(&mut self.path, index)?;
+            self.add(&to[index])?;
+            self.path.truncate(length);
+        }
+        Ok(())
+    }
+
+    fn add(&mut self, new: &JsonValue) -> Result<()>
+        ensures ok { OnOk result ((op : Value) × Adds (string_bytes self.old.path) (view new.now) op
+            × (operations_of self.new ≡ operations_of self.old ++ op ∷ [])) }
+        ensures path { OnOk result (self.new.path ≡ self.old.path) }
+        ensures memory { IsOkUnless result Error.OutOfMemory }
+    {
+        let operation = adding(self.alloc, self.path.as_str(), new)?;
+        self.operations.push(operation)?;
+        Ok(())
+    }
+
+    fn remove(&mut self) -> Result<()>
+        ensures ok { OnOk result ((op : Value) × Removes (string_bytes self.old.path) op
+            × (operations_of self.new ≡ operations_of self.old ++ op ∷ [])) }
+        ensures path { OnOk result (self.new.path ≡ self.old.path) }
+        ensures memory { IsOkUnless result Error.OutOfMemory }
+    {
+        let operation = removing(self.alloc, self.path.as_str())?;
+        self.operations.push(operation)?;
+        Ok(())
     }
 }
 
-/// The path of the entry with a key.
-#[tactic(auto, using(crate::proofs::EscapedSteps::pushing))]
-fn below(alloc: Global, path: &str, key: &str) -> Result<String>
-    ensures ok { IfOk result (λ p. IsBelow path.now key.now (string_bytes p)) }
+/// How many elements at the beginning, and after them at the end, are equal. None are looked for in
+/// arrays of one length, whose elements have the same indexes: so no element is compared twice.
+fn common(from: &[JsonValue], to: &[JsonValue]) -> (usize, usize)
+    ensures room { (result.0 + result.1 ≤ length from.now) × (result.0 + result.1 ≤ length to.now) }
+    ensures start { AllSame (take result.0 (map view from.now)) (take result.0 (map view to.now)) }
+    ensures end { AllSame (drop (length from.now - result.1) (map view from.now))
+        (drop (length to.now - result.1) (map view to.now)) }
+{
+    if from.len() == to.len() {
+        return (0, 0);
+    }
+    let start = common_start(from, to);
+    (
+        start,
+        common_end(from, to, from.len().min(to.len()) - start),
+    )
+}
+
+fn common_start(from: &[JsonValue], to: &[JsonValue]) -> usize
+    ensures room { (result ≤ length from.now) × (result ≤ length to.now) }
+    ensures same { AllSame (take result (map view from.now)) (take result (map view to.now)) }
+{
+    let most = from.len().min(to.len());
+    for index in 0..most {
+        if from[index] != to[index] {
+            return index;
+        }
+    }
+    most
+}
+
+fn common_end(from: &[JsonValue], to: &[JsonValue], most: usize) -> usize
+    requires most { (most ≤ length from.now) × (most ≤ length to.now) }
+    ensures room { result ≤ most }
+    ensures same { AllSame (drop (length from.now - result) (map view from.now))
+        (drop (length to.now - result) (map view to.now)) }
+{
+    for count in 0..most {
+        if from[from.len() - count - 1] != to[to.len() - count - 1] {
+            return count;
+        }
+    }
+    most
+}
+
+fn is_primitive(value: &JsonValue) -> bool {
+    !value.is_object() && !value.is_array()
+}
+
+/// Appends a slash and the token of an index.
+fn push_index(path: &mut String, index: usize) -> Result<()>
+    ensures below { OnOk result (IsBelow (string_bytes path.old) (decimal index)
+        (string_bytes path.new)) }
     ensures memory { IsOkUnless result Error.OutOfMemory }
 {
-    let mut place = String::from_str(alloc, path)?;
-    push_token(&mut place, key)?;
-    Ok(place)
+    let token = format!(in *path.allocator(); "/{index}")?;
+    path.push_str(token.as_str())?;
+    Ok(())
 }
 
 fn replacing(alloc: Global, path: &str, new: &JsonValue) -> Result<JsonValue>
@@ -137,19 +341,17 @@ fn replacing(alloc: Global, path: &str, new: &JsonValue) -> Result<JsonValue>
     Ok(jzon::object! {alloc; op: "replace", path: path, value: value})
 }
 
-fn adding(alloc: Global, path: &str, key: &str, new: &JsonValue) -> Result<JsonValue>
-    ensures ok { IfOk result (λ op. Adds path.now key.now (view new.now) (view op)) }
+fn adding(alloc: Global, path: &str, new: &JsonValue) -> Result<JsonValue>
+    ensures ok { IfOk result (λ op. Adds path.now (view new.now) (view op)) }
     ensures memory { IsOkUnless result Error.OutOfMemory }
 {
     let value = new.clone(alloc)?;
-    let place = below(alloc, path, key)?;
-    Ok(jzon::object! {alloc; op: "add", path: place, value: value})
+    Ok(jzon::object! {alloc; op: "add", path: path, value: value})
 }
 
-fn removing(alloc: Global, path: &str, key: &str) -> Result<JsonValue>
-    ensures ok { IfOk result (λ op. Removes path.now key.now (view op)) }
+fn removing(alloc: Global, path: &str) -> Result<JsonValue>
+    ensures ok { IfOk result (λ op. Removes path.now (view op)) }
     ensures memory { IsOkUnless result Error.OutOfMemory }
 {
-    let place = below(alloc, path, key)?;
-    Ok(jzon::object! {alloc; op: "remove", path: place})
+    Ok(jzon::object! {alloc; op: "remove", path: path})
 }

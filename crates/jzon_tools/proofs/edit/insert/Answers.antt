@@ -4,6 +4,7 @@ use Rattle.jzon.specs.View.{view}
 use Rattle.jzon_pointer.specs.Pointer.{inserted_at, value_at, with_new}
 use Rattle.jzon_pointer.proofs.ChangeLaws.{changes-kept}
 use Rattle.jzon_tools.proofs.LastSteps.{inserted, not_inserted, inserted-nowhere, nowhere, entry-missing}
+use Rattle.jzon_tools.proofs.PointerDepth.{inserted_depth}
 use Rattle.jzon_tools.proofs.edit.insert.Goals.{In-Some-Ok-false}
 use Rattle.jzon_tools.proofs.edit.insert.Goals as goal
 
@@ -12,6 +13,13 @@ returns-in-Some-Ok-true-clause-ok c =
     let p = c.in-Some-Ok-true.ensures.found in
     let new : with_new (view c.args.new) (view p.0) c.in_ok-left.token.now ≡ Some (view p.1) = search rules in
     inserted c.in_ok-left.ensures.last (view c.args.new) _ (view p.0) (view p.1) _ p.3 new
+
+pub returns-in-Some-Ok-true-clause-depth : goal.returns-in-Some-Ok-true-clause-depth
+returns-in-Some-Ok-true-clause-depth c =
+    let p = c.in-Some-Ok-true.ensures.found in
+    let new : with_new (view c.args.new) (view p.0) c.in_ok-left.token.now ≡ Some (view p.1) = search rules in
+    inserted_depth (view c.args.new) (view c.args.value.now) (view c.change_at.new.value) c.args.path.now
+    (inserted c.in_ok-left.ensures.last (view c.args.new) _ (view p.0) (view p.1) _ p.3 new)
 
 pub returns-in-Some-Err-clause-err : goal.returns-in-Some-Err-clause-err
 returns-in-Some-Err-clause-err c =
