@@ -2,11 +2,12 @@
 
 use crate::common::{Tested, Tester, expect, expect_eq};
 use jzon::number::Number;
-use jzon::{IntoJson, JsonValue, Reading};
+use jzon::{JsonValue, Reading};
 use jzon_test_support::{RUNS_MAX, Refusals, joined, rows};
 use jzon_typed::decode::{self, DecodeError, Fields, FromJson};
+use jzon_typed::encode::{self, Members, ToJson};
 use std::alloc::Global;
-use std::collections::{BTreeMap, HashMap};
+use std::collections::BTreeMap;
 use std::io;
 use std::io::ErrorKind;
 use std::result::Result;
@@ -32,7 +33,10 @@ enum As {
     Maybe,
     Lists,
     Tree,
-    Hash,
+    Flags,
+    Boxed,
+    Pair,
+    Unset,
     Sample,
 }
 
@@ -56,6 +60,32 @@ impl FromJson for Cents {
             Some(cents) => Ok(Cents(cents)),
             None => Err(DecodeError::expected(alloc, value, "a price")),
         }
+    }
+}
+
+/// Types that take null, with a default for null.
+#[derive(Drop)]
+struct Unset {
+    small: Option<u8>,
+    value: JsonValue,
+}
+
+impl FromJson for Unset {
+    fn from_json(alloc: Global, value: &JsonValue) -> Result<Unset, DecodeError> {
+        let unset = Fields::of(alloc, value)?;
+        Ok(Unset {
+            small: unset.read_or("small", Some(7))?,
+            value: unset.read_or("value", JsonValue::Boolean(true))?,
+        })
+    }
+}
+
+impl ToJson for Unset {
+    fn to_json(&self, alloc: Global) -> jzon::Result<JsonValue> {
+        Members::new(alloc)
+            .put("small", &self.small)?
+            .put("value", &self.value)?
+            .done()
     }
 }
 
@@ -154,10 +184,20 @@ const READ: &[(&str, As, &str)] = rows! {
     (r#"{"~1":5}"#, As::Tree, "/~01: expected an array, found 5")
     (r#"{"0123456789012345678901234567890123456789":[[7]]}"#, As::Tree, "/0123456789012345678901234567890123456789/0: expected an integer from 0 to 65535, found an array of 1 element")
     (r#"{"a\u001b\"":{"b":1}}"#, As::Tree, r#"/a\u001b\": expected an array, found an object of 1 entry"#)
-    (r#"{"a":true}"#, As::Hash, r#"{"a":true}"#)
-    ("{}", As::Hash, "{}")
-    ("[1,2]", As::Hash, "expected an object, found an array of 2 elements")
-    (r#"{"a":{"b":1,"c":2}}"#, As::Hash, "/a: expected true or false, found an object of 2 entries")
+    ("65535", As::Boxed, "65535")
+    ("65536", As::Boxed, "expected an integer from 0 to 65535, found 65536")
+    (r#"[255,["a",true]]"#, As::Pair, r#"[255,["a",true]]"#)
+    (r#"[1,["a",0]]"#, As::Pair, "/1/1: expected true or false, found 0")
+    ("[1]", As::Pair, "expected an array of 2 elements, found an array of 1 element")
+    ("[1,[],2]", As::Pair, "expected an array of 2 elements, found an array of 3 elements")
+    (r#"{"a":1,"b":2}"#, As::Pair, "expected an array of 2 elements, found an object of 2 entries")
+    (r#"{"small":null,"value":null}"#, As::Unset, r#"{"small":7,"value":true}"#)
+    ("{}", As::Unset, r#"{"small":7,"value":true}"#)
+    (r#"{"small":1,"value":[]}"#, As::Unset, r#"{"small":1,"value":[]}"#)
+    (r#"{"a":true}"#, As::Flags, r#"{"a":true}"#)
+    ("{}", As::Flags, "{}")
+    ("[1,2]", As::Flags, "expected an object, found an array of 2 elements")
+    (r#"{"a":{"b":1,"c":2}}"#, As::Flags, "/a: expected true or false, found an object of 2 entries")
     (r#""0123456789012345678901234567890123456789""#, As::U8, r#"expected an integer from 0 to 255, found "0123456789012345678901234567890123456789""#)
     (r#""01234567890123456789012345678901234567890""#, As::U8, "expected an integer from 0 to 255, found a string of 41 characters")
     (r#""éééééééééééééééééééééééééééééééééééééééé""#, As::Truth, r#"expected true or false, found "éééééééééééééééééééééééééééééééééééééééé""#)
@@ -171,6 +211,8 @@ const READ: &[(&str, As, &str)] = rows! {
     (r#"{"name":"a"}"#, As::Sample, "/lists: missing, expected an array of at most 2 elements")
     (r#"{"name":"a","lists":null}"#, As::Sample, "/lists: expected an array, found null")
     (r#"{"name":"a","lists":[[],[],[]]}"#, As::Sample, "/lists: expected an array of at most 2 elements, found an array of 3 elements")
+    (r#"{"name":"a","lists":[null,[],[]]}"#, As::Sample, "/lists: expected an array of at most 2 elements, found an array of 3 elements")
+    (r#"{"y":1,"x":2}"#, As::Sample, "/y: unknown key, expected name, small, cents, lists, price, a/b~c")
     (r#"{"name":"a","lists":[[1],[2,null]]}"#, As::Sample, "/lists/1/1: expected an integer from 0 to 65535, found null")
     (r#"{"name":"a","nmae":1}"#, As::Sample, "/nmae: unknown key, expected name, small, cents, lists, price, a/b~c")
     (r#"{"~/":1}"#, As::Sample, "/~0~1: unknown key, expected name, small, cents, lists, price, a/b~c")
@@ -190,12 +232,11 @@ const READ: &[(&str, As, &str)] = rows! {
 };
 
 /// What is left of a text after it was read, converted, read and converted again.
-fn reread<T: FromJson + IntoJson>(alloc: Global, text: &str) -> Result<String, DecodeError> {
+fn reread<T: FromJson + ToJson>(alloc: Global, text: &str) -> Result<String, DecodeError> {
     let first: T = decode::from_text(alloc, text)?;
-    let value = first.into_json(alloc)?;
+    let value = first.to_json(alloc)?;
     let second = T::from_json(alloc, &value)?;
-    let again = second.into_json(alloc)?;
-    Ok(again.dump(alloc)?)
+    Ok(encode::to_text(alloc, &second)?)
 }
 
 /// The parts of a sample.
@@ -232,7 +273,10 @@ fn printed(alloc: Global, text: &str, kind: As) -> Result<String, DecodeError> {
         As::Maybe => reread::<Option<u16>>(alloc, text),
         As::Lists => reread::<Vec<Vec<u16>>>(alloc, text),
         As::Tree => reread::<BTreeMap<String, Vec<u16>>>(alloc, text),
-        As::Hash => reread::<HashMap<String, bool>>(alloc, text),
+        As::Flags => reread::<BTreeMap<String, bool>>(alloc, text),
+        As::Boxed => reread::<Box<Box<u16>>>(alloc, text),
+        As::Pair => reread::<(u8, (String, bool))>(alloc, text),
+        As::Unset => reread::<Unset>(alloc, text),
         As::Sample => parts_of(alloc, text),
     }
 }
@@ -323,12 +367,17 @@ fn names_the_last_of_many(rt: HostRuntime) -> Tested {
 /// A text that the usual reading takes and the strict and exact one doesn't, and the result.
 const USUAL: &[(&str, &str)] = rows! {
     (r#"{"a":1,"a":2}"#, r#"{"a":2}"#)
-    (r#"{"a":18446744073709551616}"#, r#"{"a":18446744073709551610}"#)
+    (r#"{"a":18446744073709551616}"#, "/a: expected an integer of which no digit may have been cut, found 18446744073709551610")
+    (r#"{"a":100.00000000000000000001}"#, "/a: expected an integer of which no digit may have been cut, found 100.00000000000000000")
+    (r#"{"a":1844674407370955160e1}"#, r#"{"a":18446744073709551600}"#)
+    (r#"{"a":1844674407370955161e1}"#, "/a: expected an integer of which no digit may have been cut, found 18446744073709551610")
+    (r#"{"a":18446744073709551615}"#, r#"{"a":18446744073709551615}"#)
+    (r#"{"a":-1e20}"#, "/a: expected an integer from 0 to 18446744073709551615, found -1e20")
 };
 
 fn usual(alloc: Global, text: &str) -> Result<String, DecodeError> {
     let map: BTreeMap<String, u64> = decode::from_text_as(alloc, text, &Reading::USUAL)?;
-    Ok(map.into_json(alloc)?.dump(alloc)?)
+    Ok(encode::to_text(alloc, &map)?)
 }
 
 #[test]

@@ -28,13 +28,11 @@ struct Server {
 
 impl ToJson for Server {
     fn to_json(&self, alloc: Global) -> jzon::Result<JsonValue> {
-        Ok(
-            Members::new(alloc)
-                .put("host", &self.host)?
-                .put("port", &self.port)?
-                .put("secure", &self.secure)?
-                .into_value(),
-        )
+        Members::new(alloc)
+            .put("host", &self.host)?
+            .put("port", &self.port)?
+            .put("secure", &self.secure)?
+            .done()
     }
 }
 
@@ -51,15 +49,13 @@ impl FromJson for Server {
 
 impl ToJson for Fleet {
     fn to_json(&self, alloc: Global) -> jzon::Result<JsonValue> {
-        Ok(
-            Members::new(alloc)
-                .put("name", &self.name)?
-                .put("main", &self.main)?
-                .put("others", &self.others)?
-                .put("limits", &self.limits)?
-                .put_some("owner", &self.owner)?
-                .into_value(),
-        )
+        Members::new(alloc)
+            .put("name", &self.name)?
+            .put("main", &self.main)?
+            .put("others", &self.others)?
+            .put("limits", &self.limits)?
+            .put_some("owner", &self.owner)?
+            .done()
     }
 }
 

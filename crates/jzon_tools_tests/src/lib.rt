@@ -17,6 +17,8 @@ mod locate;
 #[cfg(test)]
 mod merge;
 #[cfg(test)]
+mod own_type;
+#[cfg(test)]
 mod patch;
 #[cfg(test)]
 mod pointer;

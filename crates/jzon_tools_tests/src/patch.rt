@@ -6,8 +6,8 @@ use jzon_pointer::PointerError::{Missing, NoSlash, WholeValue};
 use jzon_pointer::Primitive;
 use jzon_pointer::Reason::{NoChildren, NoMember, NotAnIndex, OutOfRange};
 use jzon_test_support::{RUNS_MAX, Refusals, joined, rows};
-use jzon_tools::patch::{self, Cause, Limits, PatchError};
 use jzon_tools::edit;
+use jzon_tools::patch::{self, Cause, Limits, PatchError};
 use std::io;
 use std::test::Fail;
 
@@ -437,11 +437,7 @@ const LONG: &[(usize, &str)] = rows! {
 fn counts_the_containers_around(rt: HostRuntime) -> Tested {
     let new = jzon::parse(rt.alloc(), "[[1],{}]")?;
     for (path, depth, fits) in ROOM {
-        expect(
-            &rt,
-            path,
-            edit::nests_within(path, &new, *depth) == *fits,
-        );
+        expect(&rt, path, edit::nests_within(path, &new, *depth) == *fits);
     }
     Ok(())
 }

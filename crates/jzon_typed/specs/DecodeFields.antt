@@ -12,9 +12,17 @@ use Rattle.jzon_typed.specs.declared.decode.fields.Fields.{Fields}
 abbrev pub read_from : Fields → Value
 read_from f = view_object f.object.now
 
+-- the object has an entry with this key, of whose value this holds
+abbrev pub HasEntry : Value → List ℕ → (Value → Type 0) → Type 0
+HasEntry v key P = (w : Value) × (find key (entries v) ≡ Some w) × P w
+
 -- the value of the key's entry gives this result
 abbrev pub ReadsEntry : {X : Type 0} → Fields → List ℕ → (Value → X → Type 0) → X → Type 0
 ReadsEntry f key gives x = (w : Value) × (find key (entries (read_from f)) ≡ Some w) × gives w x
+
+-- the key has an entry whose value is taken
+abbrev pub TakesEntry : Fields → List ℕ → (Value → Type 0) → Type 0
+TakesEntry f key takes = (w : Value) × (find key (entries (read_from f)) ≡ Some w) × takes w
 
 -- there is no such entry, or its value is null
 abbrev pub IsAbsent : Option Value → Type 0

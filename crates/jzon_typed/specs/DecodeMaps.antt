@@ -1,10 +1,26 @@
--- Maps that are read from the entries of an object.
-use Rattle.std.specs.Prelude.{◌≡◌, ℕ, List, Option, None, Some, MatchOption}
+-- Lists and maps that are read from the elements of an array and the entries of an object.
+use Rattle.std.specs.Prelude.{◌≡◌, ℕ, List, Option, None, Some, MatchOption, slice_get, true}
 use Rattle.jzon.specs.PairList.{find}
-use Rattle.jzon.specs.Readers.{entries}
+use Rattle.jzon.specs.Readers.{count, entries, is_array, items}
 use Rattle.jzon.specs.Value.{Value}
 
 -- what is looked up by the bytes of each key was read from the value of that key, if the object has one
 abbrev pub ReadsEntries : {X : Type 0} → (Value → X → Type 0) → Value → (List ℕ → Option X) → Type 0
 ReadsEntries G v look = (k : List ℕ) → MatchOption (look k) (find k (entries v) ≡ None)
     (λ x. (w : Value) × (find k (entries v) ≡ Some w) × G w x)
+
+-- the element at this index gives this result
+abbrev pub ReadsItem : {X : Type 0} → Value → ℕ → (Value → X → Type 0) → X → Type 0
+ReadsItem v i G x = (w : Value) × (slice_get (items v) i ≡ Some w) × G w x
+
+-- there is an element at this index, and it is taken
+abbrev pub TakesItem : Value → ℕ → (Value → Type 0) → Type 0
+TakesItem v i takes = (w : Value) × (slice_get (items v) i ≡ Some w) × takes w
+
+-- an array of this many elements
+abbrev pub IsArrayOf : ℕ → Value → Type 0
+IsArrayOf n v = (is_array v ≡ true) × (count v ≡ n)
+
+-- an array, of which each element is taken
+abbrev pub TakesItems : (Value → Type 0) → Value → Type 0
+TakesItems takes v = (is_array v ≡ true) × ((i : ℕ) (w : Value) → slice_get (items v) i ≡ Some w → takes w)

@@ -44,6 +44,11 @@ expected_text (expected.Fixed n) = if n == 0 then codes "an integer"
     else codes "a number with at most " ++ decimal n ++ codes " digits after the point")
 expected_text (expected.AtMost n) = if n == 1 then codes "an array of at most 1 element"
     else codes "an array of at most " ++ decimal n ++ codes " elements"
+expected_text (expected.Above n) = if n == 1 then codes "an array of more than 1 element"
+    else codes "an array of more than " ++ decimal n ++ codes " elements"
+expected_text (expected.Exactly n) = if n == 1 then codes "an array of 1 element"
+    else codes "an array of " ++ decimal n ++ codes " elements"
+expected_text expected.Whole = codes "an integer of which no digit may have been cut"
 expected_text (expected.Other words) = words.now
 
 -- what is there

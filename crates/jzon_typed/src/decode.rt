@@ -4,18 +4,22 @@
 //! An error names its place by a JSON pointer. Nobody hands a path down: a reader knows only its own
 //! value, and those of containers put the key or index before the pointer of an error that comes up.
 
-ghost use Rattle.std.specs.Prelude.{chars, IfOk, IfErr};
+ghost use Rattle.std.specs.Prelude.{chars, IfOk, IfErr, IsOkUnless};
 ghost use Rattle.jzon.specs.Value.{Value};
 ghost use Rattle.jzon.specs.View.{view};
 ghost use Rattle.jzon_typed.specs.Decode.{IsErrorIn, IsLocatedIn, MeansSome};
 ghost use Rattle.jzon.specs.Reading.{strict_exact};
+ghost use Rattle.jzon_typed.specs.Integers.{EqualIntegers};
+ghost use Rattle.jzon_typed.specs.declared.decode.error.DecodeError.TheVariants.{OutOfMemory};
 
+mod elements;
 mod error;
 mod fields;
 mod impls;
 mod located;
 mod path;
 
+pub use elements::element;
 pub use error::{DecodeError, Expected, Found, Known, LONGEST};
 pub use fields::Fields;
 use jzon::{JsonValue, Reading, parse_located};
@@ -24,7 +28,8 @@ use std::alloc::Global;
 use std::result::Result;
 
 /// Types that are read from a value. An implementation may say by the relation `gives` which results
-/// a value gives; one that says nothing needs no ghost line.
+/// a value gives, and by `takes` which values are read, want of memory aside; one that says nothing
+/// needs no ghost line.
 ///
 /// ```rust
 /// impl FromJson for Server {
@@ -41,10 +46,13 @@ use std::result::Result;
 pub trait FromJson: Drop {
     ghost gives: { Value → Self → Type 0 } = { λ _ _. Unit {0} };
 
+    ghost takes: { Value → Type 0 } = { λ _. ⊥ };
+
     /// The value as this type. The pointer of an error leads from this value.
     fn from_json(alloc: Global, value: &JsonValue) -> Result<Self, DecodeError>
         ensures value { IfOk result (gives (view value.now)) }
-        ensures error { IfErr result (IsErrorIn (view value.now)) };
+        ensures error { IfErr result (IsErrorIn (view value.now)) }
+        ensures takes { takes (view value.now) → IsOkUnless result OutOfMemory };
 }
 
 /// The value that a text means, as this type. The text is read strictly and exactly: a repeated key,
@@ -71,3 +79,10 @@ pub fn from_text_as<T: FromJson>(
         Err(error) => Err(error.in_text(alloc, text, reading)),
     }
 }
+
+/// Equal numbers are the same integer, or none of them is one: `1e2`, `100.0` and `100`. So the types
+/// of integers read equal values alike, if no digit may have been cut. It does nothing: the law is
+/// its contract.
+pub fn law()
+    ensures { EqualIntegers }
+{}

@@ -11,7 +11,7 @@ mod back;
 mod impls;
 mod members;
 
-pub use back::{ReadsBack, read_back};
+pub use back::{NotNull, ReadsBack, read_back};
 use jzon::{Error, JsonValue, Result};
 pub use members::Members;
 use std::alloc::Global;
@@ -22,11 +22,11 @@ use std::alloc::Global;
 /// ```rust
 /// impl ToJson for Server {
 ///     fn to_json(&self, alloc: Global) -> jzon::Result<JsonValue> {
-///         Ok(Members::new(alloc)
+///         Members::new(alloc)
 ///             .put("host", &self.host)?
 ///             .put("port", &self.port)?
 ///             .put("tags", &self.tags)?
-///             .into_value())
+///             .done()
 ///     }
 /// }
 /// ```

@@ -71,6 +71,12 @@ pub enum Expected {
     Fixed(u16),
     /// An array of at most this many elements.
     AtMost(usize),
+    /// An array of more than this many elements.
+    Above(usize),
+    /// An array of this many elements.
+    Exactly(usize),
+    /// An integer that surely has all the digits that were written.
+    Whole,
     /// What a caller's own test expects, in its words.
     Other(&'static str),
 }
@@ -147,8 +153,9 @@ impl DecodeError {
 
     /// The error of an object, of which the entry with this key has this error.
     pub fn below_key(self, alloc: Global, key: &str) -> DecodeError
-        ensures { (v w : Value) → find key.now (entries v) ≡ Some w → IsErrorIn w self
+        ensures error { (v w : Value) → find key.now (entries v) ≡ Some w → IsErrorIn w self
             → IsErrorIn v result }
+        ensures memory { self ≡ OutOfMemory → result ≡ OutOfMemory }
     {
         match path::below_key(alloc, key, self.pointer()) {
             Ok(pointer) => self.moved(pointer),
@@ -158,8 +165,9 @@ impl DecodeError {
 
     /// The error of an array, of which the element at this index has this error.
     pub fn below_index(self, alloc: Global, index: usize) -> DecodeError
-        ensures { (v w : Value) → slice_get (items v) index ≡ Some w → IsErrorIn w self
+        ensures error { (v w : Value) → slice_get (items v) index ≡ Some w → IsErrorIn w self
             → IsErrorIn v result }
+        ensures memory { self ≡ OutOfMemory → result ≡ OutOfMemory }
     {
         match path::below_index(alloc, index, self.pointer()) {
             Ok(pointer) => self.moved(pointer),
@@ -355,6 +363,11 @@ impl fmt::Display for Expected {
             }
             Expected::AtMost(1) => f.write_str("an array of at most 1 element"),
             Expected::AtMost(most) => write!(f, "an array of at most {most} elements"),
+            Expected::Above(1) => f.write_str("an array of more than 1 element"),
+            Expected::Above(most) => write!(f, "an array of more than {most} elements"),
+            Expected::Exactly(1) => f.write_str("an array of 1 element"),
+            Expected::Exactly(count) => write!(f, "an array of {count} elements"),
+            Expected::Whole => f.write_str("an integer of which no digit may have been cut"),
             Expected::Other(words) => f.write_str(*words),
         }
     }

@@ -1,6 +1,6 @@
 //! The entries of an object, read by their keys.
 
-ghost use Rattle.std.specs.Prelude.{◌≡◌, ◌≤◌, ◌⊎◌, ◌↔◌, None, Some, IfOk, IfErr, IfSome, IsOk, map, not, option_map, true};
+ghost use Rattle.std.specs.Prelude.{◌≡◌, ◌≤◌, ◌⊎◌, ◌↔◌, None, Some, IfOk, IfErr, IfSome, IsOk, IsOkUnless, Ok, map, not, option_map, true};
 ghost use Rattle.std.specs.List.{find as first};
 ghost use Rattle.std.specs.Option.{option_copied};
 ghost use Rattle.jzon.specs.Entries.{entries_of};
@@ -9,9 +9,10 @@ ghost use Rattle.jzon.specs.Readers.{count, entries, exact_fixed_point_in, is_ob
 ghost use Rattle.jzon.specs.Value.{Value};
 ghost use Rattle.jzon.specs.View.{view};
 ghost use Rattle.jzon_typed.specs.Decode.{IsErrorIn};
-ghost use Rattle.jzon_typed.specs.DecodeFields.{IsAbsent, AllAmong, ReadsEntry, read_from};
+ghost use Rattle.jzon_typed.specs.DecodeFields.{IsAbsent, AllAmong, ReadsEntry, TakesEntry, read_from};
 ghost use Rattle.jzon_typed.specs.DecodeExpected.{Refuses};
 ghost use Rattle.jzon_pointer.specs.Names.{is_among};
+ghost use Rattle.jzon_typed.specs.declared.decode.error.DecodeError.TheVariants.{OutOfMemory};
 
 use super::{DecodeError, Expected, FromJson, Known};
 use jzon::JsonValue;
@@ -76,6 +77,7 @@ impl<'v> Fields<'v> {
     pub fn read<T: FromJson>(&self, key: &str) -> Result<T, DecodeError>
         ensures value { IfOk result (ReadsEntry self.now key.now T.gives) }
         ensures error { IfErr result (IsErrorIn (read_from self.now)) }
+        ensures takes { TakesEntry self.now key.now T.takes → IsOkUnless result OutOfMemory }
     {
         match self.entry(key) {
             Some(value) => self.below(key, value),
@@ -89,7 +91,10 @@ impl<'v> Fields<'v> {
         ensures value { IfOk result (λ x.
             (IsAbsent (find key.now (entries (read_from self.now))) × (x ≡ default))
             ⊎ ReadsEntry self.now key.now T.gives x) }
+        ensures absent { IsAbsent (find key.now (entries (read_from self.now)))
+            → result ≡ Ok default }
         ensures error { IfErr result (IsErrorIn (read_from self.now)) }
+        ensures takes { TakesEntry self.now key.now T.takes → IsOkUnless result OutOfMemory }
     {
         match self.present(key) {
             Some(value) => self.below(key, value),
@@ -102,7 +107,10 @@ impl<'v> Fields<'v> {
         ensures none { IfOk result (λ o. o ≡ None
             → IsAbsent (find key.now (entries (read_from self.now)))) }
         ensures some { IfOk result (λ o. IfSome o (ReadsEntry self.now key.now T.gives)) }
+        ensures absent { IsAbsent (find key.now (entries (read_from self.now)))
+            → result ≡ Ok None }
         ensures error { IfErr result (IsErrorIn (read_from self.now)) }
+        ensures takes { TakesEntry self.now key.now T.takes → IsOkUnless result OutOfMemory }
     {
         match self.present(key) {
             Some(value) => Ok(Some(self.below(key, value)?)),
@@ -181,6 +189,7 @@ impl<'v> Fields<'v> {
         ensures some { IfSome result (λ v. find key.now (entries (read_from self.now))
             ≡ Some (view v.now)) }
         ensures none { result ≡ None → IsAbsent (find key.now (entries (read_from self.now))) }
+        ensures absent { IsAbsent (find key.now (entries (read_from self.now))) → result ≡ None }
     {
         let value = self.entry(key)?;
         if value.is_null() { None } else { Some(value) }
@@ -191,6 +200,7 @@ impl<'v> Fields<'v> {
         requires { find key.now (entries (read_from self.now)) ≡ Some (view value.now) }
         ensures value { IfOk result (T.gives (view value.now)) }
         ensures error { IfErr result (IsErrorIn (read_from self.now)) }
+        ensures takes { T.takes (view value.now) → IsOkUnless result OutOfMemory }
     {
         match T::from_json(self.alloc, value) {
             Ok(read) => Ok(read),

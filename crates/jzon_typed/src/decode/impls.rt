@@ -1,24 +1,24 @@
 //! How the types of std are read.
 
-ghost use Rattle.std.specs.Prelude.{◌≡◌, ◌<◌, ◌^◌, None, Some, string_bytes, true, FitsSigned, IfErr, IfOk, MatchOption};
+ghost use Rattle.std.specs.Prelude.{◌≡◌, ◌<◌, ◌^◌, ◌⊎◌, None, Some, string_bytes, true, false, FitsSigned, IfErr, IfOk, IsOk, IsSome, MatchOption};
 ghost use Rattle.std.specs.Int.{w8, w16, w32, w64};
 ghost use Rattle.std.specs.List.{AllZip};
 ghost use Rattle.std.specs.BTreeMap as tree;
-ghost use Rattle.std.specs.HashMap as hash;
 ghost use Rattle.jzon.specs.Decimal.{SomeWhere};
 ghost use Rattle.jzon.specs.Readers.{is_array, is_object, items, number_in, text_in, truth_in};
 ghost use Rattle.jzon.specs.Value.{null};
 ghost use Rattle.jzon.specs.View.{view};
 ghost use Rattle.jzon_typed.specs.Decode.{IsErrorIn};
 ghost use Rattle.jzon_typed.specs.DecodeExpected.{Refuses};
-ghost use Rattle.jzon_typed.specs.DecodeMaps.{ReadsEntries};
-ghost use Rattle.jzon_typed.specs.Integers.{natural_in, whole_in};
+ghost use Rattle.jzon_typed.specs.DecodeMaps.{IsArrayOf, ReadsEntries, ReadsItem, TakesItem, TakesItems};
+ghost use Rattle.jzon_typed.specs.Integers.{may_be_cut_in, natural_in, whole_in, IsNatural, IsNaturalBelow, IsWhole, IsWholeOf};
 
-use super::{DecodeError, Expected, Fields, FromJson};
+use super::elements::check_len;
+use super::{DecodeError, Expected, Fields, FromJson, element};
 use jzon::JsonValue;
 use jzon::number::Number;
 use std::alloc::Global;
-use std::collections::{BTreeMap, HashMap};
+use std::collections::BTreeMap;
 use std::result::Result;
 
 /// What was read, or the error of a value that isn't what is expected.
@@ -31,6 +31,7 @@ fn or_wrong<T>(
     requires { read ≡ None → Refuses expected (view value.now) }
     ensures value { IfOk result (λ x. read ≡ Some x) }
     ensures error { IfErr result (IsErrorIn (view value.now)) }
+    ensures takes { IsSome read → IsOk result }
 {
     match read {
         Some(read) => Ok(read),
@@ -38,9 +39,42 @@ fn or_wrong<T>(
     }
 }
 
+/// The same of an integer, which isn't taken either if a digit of the number may have been cut.
+fn integer<T: Drop>(
+    alloc: Global,
+    value: &JsonValue,
+    read: Option<T>,
+    expected: Expected,
+) -> Result<T, DecodeError>
+    requires { read ≡ None → Refuses expected (view value.now) }
+    ensures value { IfOk result (λ x. (read ≡ Some x) × (may_be_cut_in (view value.now) ≡ false)) }
+    ensures error { IfErr result (IsErrorIn (view value.now)) }
+    ensures takes { IsSome read → may_be_cut_in (view value.now) ≡ false → IsOk result }
+{
+    if read.is_some() && may_be_cut(value) {
+        return Err(DecodeError::wrong(alloc, value, Expected::Whole));
+    }
+    or_wrong(alloc, value, read, expected)
+}
+
+/// Whether digits of the number may have been cut where its text was read.
+fn may_be_cut(value: &JsonValue) -> bool
+    ensures { result ≡ may_be_cut_in (view value.now) }
+{
+    match value {
+        JsonValue::Number(number) => {
+            let (_positive, mantissa, exponent) = number.as_parts();
+            exponent != 0 && mantissa >= u64::MAX / 10
+        }
+        _ => false,
+    }
+}
+
 /// A copy of the value.
 impl FromJson for JsonValue {
     ghost gives = { λ v w. view w ≡ v };
+
+    ghost takes = { λ _. Unit {0} };
 
     fn from_json(alloc: Global, value: &JsonValue) -> Result<JsonValue, DecodeError> {
         Ok(value.clone(alloc)?)
@@ -49,6 +83,8 @@ impl FromJson for JsonValue {
 
 impl FromJson for String {
     ghost gives = { λ v s. text_in v ≡ Some (string_bytes s) };
+
+    ghost takes = { λ v. IsSome (text_in v) };
 
     fn from_json(alloc: Global, value: &JsonValue) -> Result<String, DecodeError> {
         match value.as_str() {
@@ -61,6 +97,8 @@ impl FromJson for String {
 impl FromJson for bool {
     ghost gives = { λ v b. truth_in v ≡ Some b };
 
+    ghost takes = { λ v. IsSome (truth_in v) };
+
     fn from_json(alloc: Global, value: &JsonValue) -> Result<bool, DecodeError> {
         or_wrong(alloc, value, value.as_bool(), Expected::Boolean)
     }
@@ -69,94 +107,128 @@ impl FromJson for bool {
 impl FromJson for Number {
     ghost gives = { λ v n. number_in v ≡ Some n };
 
+    ghost takes = { λ v. IsSome (number_in v) };
+
     fn from_json(alloc: Global, value: &JsonValue) -> Result<Number, DecodeError> {
         or_wrong(alloc, value, value.as_number(), Expected::Number)
     }
 }
 
 impl FromJson for u8 {
-    ghost gives = { λ v n. natural_in v ≡ Some n };
+    ghost gives = { IsNatural };
 
+    ghost takes = { IsNaturalBelow (2 ^ 8) };
+
+    #[tactic(auto, using(crate::proofs::IntegerSteps::integers))]
     fn from_json(alloc: Global, value: &JsonValue) -> Result<u8, DecodeError> {
-        or_wrong(alloc, value, u8_in(value), Expected::U8)
+        integer(alloc, value, u8_in(value), Expected::U8)
     }
 }
 
 impl FromJson for u16 {
-    ghost gives = { λ v n. natural_in v ≡ Some n };
+    ghost gives = { IsNatural };
 
+    ghost takes = { IsNaturalBelow (2 ^ 16) };
+
+    #[tactic(auto, using(crate::proofs::IntegerSteps::integers))]
     fn from_json(alloc: Global, value: &JsonValue) -> Result<u16, DecodeError> {
-        or_wrong(alloc, value, u16_in(value), Expected::U16)
+        integer(alloc, value, u16_in(value), Expected::U16)
     }
 }
 
 impl FromJson for u32 {
-    ghost gives = { λ v n. natural_in v ≡ Some n };
+    ghost gives = { IsNatural };
 
+    ghost takes = { IsNaturalBelow (2 ^ 32) };
+
+    #[tactic(auto, using(crate::proofs::IntegerSteps::integers))]
     fn from_json(alloc: Global, value: &JsonValue) -> Result<u32, DecodeError> {
-        or_wrong(alloc, value, u32_in(value), Expected::U32)
+        integer(alloc, value, u32_in(value), Expected::U32)
     }
 }
 
 impl FromJson for u64 {
-    ghost gives = { λ v n. natural_in v ≡ Some n };
+    ghost gives = { IsNatural };
 
+    ghost takes = { IsNaturalBelow (2 ^ 64) };
+
+    #[tactic(auto, using(crate::proofs::IntegerSteps::integers))]
     fn from_json(alloc: Global, value: &JsonValue) -> Result<u64, DecodeError> {
-        or_wrong(alloc, value, natural(value), Expected::U64)
+        integer(alloc, value, natural(value), Expected::U64)
     }
 }
 
 impl FromJson for usize {
-    ghost gives = { λ v n. natural_in v ≡ Some n };
+    ghost gives = { IsNatural };
 
+    ghost takes = { IsNaturalBelow (2 ^ 64) };
+
+    #[tactic(auto, using(crate::proofs::IntegerSteps::integers))]
     fn from_json(alloc: Global, value: &JsonValue) -> Result<usize, DecodeError> {
-        or_wrong(alloc, value, usize_in(value), Expected::U64)
+        integer(alloc, value, usize_in(value), Expected::U64)
     }
 }
 
 impl FromJson for i8 {
-    ghost gives = { λ v n. whole_in v ≡ Some n };
+    ghost gives = { IsWhole };
 
+    ghost takes = { IsWholeOf w8 };
+
+    #[tactic(auto, using(crate::proofs::IntegerSteps::integers))]
     fn from_json(alloc: Global, value: &JsonValue) -> Result<i8, DecodeError> {
-        or_wrong(alloc, value, i8_in(value), Expected::I8)
+        integer(alloc, value, i8_in(value), Expected::I8)
     }
 }
 
 impl FromJson for i16 {
-    ghost gives = { λ v n. whole_in v ≡ Some n };
+    ghost gives = { IsWhole };
 
+    ghost takes = { IsWholeOf w16 };
+
+    #[tactic(auto, using(crate::proofs::IntegerSteps::integers))]
     fn from_json(alloc: Global, value: &JsonValue) -> Result<i16, DecodeError> {
-        or_wrong(alloc, value, i16_in(value), Expected::I16)
+        integer(alloc, value, i16_in(value), Expected::I16)
     }
 }
 
 impl FromJson for i32 {
-    ghost gives = { λ v n. whole_in v ≡ Some n };
+    ghost gives = { IsWhole };
 
+    ghost takes = { IsWholeOf w32 };
+
+    #[tactic(auto, using(crate::proofs::IntegerSteps::integers))]
     fn from_json(alloc: Global, value: &JsonValue) -> Result<i32, DecodeError> {
-        or_wrong(alloc, value, i32_in(value), Expected::I32)
+        integer(alloc, value, i32_in(value), Expected::I32)
     }
 }
 
 impl FromJson for i64 {
-    ghost gives = { λ v n. whole_in v ≡ Some n };
+    ghost gives = { IsWhole };
 
+    ghost takes = { IsWholeOf w64 };
+
+    #[tactic(auto, using(crate::proofs::IntegerSteps::integers))]
     fn from_json(alloc: Global, value: &JsonValue) -> Result<i64, DecodeError> {
-        or_wrong(alloc, value, whole(value), Expected::I64)
+        integer(alloc, value, whole(value), Expected::I64)
     }
 }
 
 impl FromJson for isize {
-    ghost gives = { λ v n. whole_in v ≡ Some n };
+    ghost gives = { IsWhole };
 
+    ghost takes = { IsWholeOf w64 };
+
+    #[tactic(auto, using(crate::proofs::IntegerSteps::integers))]
     fn from_json(alloc: Global, value: &JsonValue) -> Result<isize, DecodeError> {
-        or_wrong(alloc, value, isize_in(value), Expected::I64)
+        integer(alloc, value, isize_in(value), Expected::I64)
     }
 }
 
 /// Null is `None`.
 impl<T: FromJson> FromJson for Option<T> {
-    ghost gives = { λ v o. MatchOption o (v ≡ null) (T.gives v) };
+    ghost gives = { λ v o. MatchOption o (v ≡ null) (λ x. (v ≡ null → ⊥) × T.gives v x) };
+
+    ghost takes = { λ v. (v ≡ null) ⊎ T.takes v };
 
     fn from_json(alloc: Global, value: &JsonValue) -> Result<Option<T>, DecodeError> {
         if value.is_null() {
@@ -170,6 +242,8 @@ impl<T: FromJson> FromJson for Option<T> {
 impl<T: FromJson> FromJson for Vec<T> {
     ghost gives = { λ v xs. (is_array v ≡ true) × AllZip T.gives (items v) xs.items };
 
+    ghost takes = { TakesItems T.takes };
+
     fn from_json(alloc: Global, value: &JsonValue) -> Result<Vec<T>, DecodeError> {
         let JsonValue::Array(items) = value else {
             return Err(DecodeError::wrong(alloc, value, Expected::Array));
@@ -182,6 +256,28 @@ impl<T: FromJson> FromJson for Vec<T> {
             }
         }
         Ok(list)
+    }
+}
+
+impl<T: FromJson> FromJson for Box<T> {
+    ghost gives = { λ v b. T.gives v b.value };
+
+    ghost takes = { T.takes };
+
+    fn from_json(alloc: Global, value: &JsonValue) -> Result<Box<T>, DecodeError> {
+        Ok(Box::new(alloc, T::from_json(alloc, value)?)?)
+    }
+}
+
+/// The elements of an array of two.
+impl<A: FromJson, B: FromJson> FromJson for (A, B) {
+    ghost gives = { λ v p. IsArrayOf 2 v × ReadsItem v 0 A.gives p.0 × ReadsItem v 1 B.gives p.1 };
+
+    ghost takes = { λ v. IsArrayOf 2 v × TakesItem v 0 A.takes × TakesItem v 1 B.takes };
+
+    fn from_json(alloc: Global, value: &JsonValue) -> Result<(A, B), DecodeError> {
+        check_len(alloc, value, 2)?;
+        Ok((element(alloc, value, 0)?, element(alloc, value, 1)?))
     }
 }
 
@@ -200,32 +296,25 @@ impl<T: FromJson> FromJson for BTreeMap<String, T> {
     }
 }
 
-/// The entries of an object.
-impl<T: FromJson> FromJson for HashMap<String, T> {
-    ghost gives = { λ v m. (is_object v ≡ true) × ReadsEntries T.gives v (hash.get_by_text m) };
-
-    fn from_json(alloc: Global, value: &JsonValue) -> Result<HashMap<String, T>, DecodeError> {
-        let fields = Fields::of(alloc, value)?;
-        let mut map = HashMap::new(alloc);
-        for key in fields.object.keys() {
-            let entry = fields.read(key)?;
-            map.insert(String::from_str(alloc, key)?, entry)?;
-        }
-        Ok(map)
-    }
-}
-
 /// The integer that a number is, however it is written, if it fits: 100 of `1e2` and `100.0`.
+#[tactic(auto, using(crate::proofs::IntegerSteps::integers))]
 fn whole(value: &JsonValue) -> Option<i64>
     ensures { SomeWhere (whole_in (view value.now)) (FitsSigned w64) result }
 {
+    if let Some(integer) = value.as_i64() {
+        return Some(integer);
+    }
     value.as_exact_fixed_point_i64(0)
 }
 
 /// The same, if it isn't below 0. It is 0 of `-0` too.
+#[tactic(auto, using(crate::proofs::IntegerSteps::integers))]
 fn natural(value: &JsonValue) -> Option<u64>
     ensures { SomeWhere (natural_in (view value.now)) (λ n. n < 2 ^ 64) result }
 {
+    if let Some(integer) = value.as_u64() {
+        return Some(integer);
+    }
     if let Some(integer) = value.as_exact_fixed_point_u64(0) {
         return Some(integer);
     }

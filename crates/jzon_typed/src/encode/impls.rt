@@ -1,9 +1,9 @@
 //! How the types of std are written.
 
-ghost use Rattle.std.specs.Prelude.{◌≡◌, ◌<◌, ◌^◌, pos, string_bytes, FitsSigned, IfOk, IsOkUnless};
+ghost use Rattle.std.specs.Prelude.{◌≡◌, ◌<◌, ◌^◌, ◌∷◌, [], pos, string_bytes, FitsSigned, IfOk, IsOkUnless};
 ghost use Rattle.std.specs.Int.{w8, w16, w32, w64};
 ghost use Rattle.jzon.specs.Decimal.{integer_parts};
-ghost use Rattle.jzon.specs.Value.{boolean, kind_of, number, text};
+ghost use Rattle.jzon.specs.Value.{Value, array, boolean, kind_of, number, text, values_of};
 ghost use Rattle.jzon.specs.IntoJson.{ListMeans, OptionMeans};
 ghost use Rattle.jzon.specs.View.{view};
 
@@ -170,6 +170,19 @@ impl<T: ToJson> ToJson for Box<T> {
     }
 }
 
+/// The array of both.
+impl<A: ToJson, B: ToJson> ToJson for (A, B) {
+    ghost shows = { λ p v. (x y : Value) × A.shows p.0 x × B.shows p.1 y
+        × (v ≡ array (values_of (x ∷ y ∷ []))) };
+
+    fn to_json(&self, alloc: Global) -> Result<JsonValue> {
+        let mut items = Vec::with_capacity(alloc, 2)?;
+        items.push(self.0.to_json(alloc)?)?;
+        items.push(self.1.to_json(alloc)?)?;
+        Ok(JsonValue::Array(items))
+    }
+}
+
 /// The object of its entries, in the map's order.
 impl<T: ToJson> ToJson for BTreeMap<String, T> {
     fn to_json(&self, alloc: Global) -> Result<JsonValue> {
@@ -177,7 +190,7 @@ impl<T: ToJson> ToJson for BTreeMap<String, T> {
         for (key, source) in self.iter() {
             members = members.put(key.as_str(), source)?;
         }
-        Ok(members.into_value())
+        members.done()
     }
 }
 

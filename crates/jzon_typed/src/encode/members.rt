@@ -1,6 +1,6 @@
 //! An object that is made of its entries, one by one.
 
-ghost use Rattle.std.specs.Prelude.{◌≡◌, ◌⊎◌, [], IfOk, IsOkUnless, MatchOption};
+ghost use Rattle.std.specs.Prelude.{◌≡◌, ◌⊎◌, [], IfOk, IsOk, IsOkUnless, MatchOption};
 ghost use Rattle.jzon.specs.Entries.{entries_of};
 ghost use Rattle.jzon.specs.PairList.{put};
 ghost use Rattle.jzon.specs.Value.{Value};
@@ -57,10 +57,11 @@ impl Members {
         }
     }
 
-    /// The object.
-    pub fn into_value(self) -> JsonValue
-        ensures { view result ≡ view_object self.object }
+    /// The object, as what `to_json` returns. It always succeeds.
+    pub fn done(self) -> Result<JsonValue>
+        ensures value { IfOk result (λ v. view v ≡ view_object self.object) }
+        ensures ok { IsOk result }
     {
-        JsonValue::Object(self.object)
+        Ok(JsonValue::Object(self.object))
     }
 }

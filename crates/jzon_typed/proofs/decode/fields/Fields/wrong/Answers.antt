@@ -4,5 +4,5 @@ use Rattle.jzon_typed.proofs.decode.fields.Fields.wrong.Goals as goal
 
 pub returns : goal.returns
 returns c =
-    c.below_key.ensures (read_from c.args.self.now) (view c.args.value.now) c.requires.entry
+    c.below_key.ensures.error (read_from c.args.self.now) (view c.args.value.now) c.requires.entry
     (c.wrong.ensures c.requires.refused)

@@ -15,10 +15,21 @@ returns-in-Err-clause-error g c =
     let item = c.item-item.result in
     let seen = ap (λ v. items (view v)) c.in-Array.is ∙ items-Array c.in-Array.items
     ∙ ap (map view) (sym c.deref-item-items.ensures.value) in
-    c.below_index.ensures (view c.args.value.now) (view item)
+    c.below_index.ensures.error (view c.args.value.now) (view item)
     (ap (λ vs. slice_get vs i) seen ∙ slice_get-map view xs i
     ∙ ap (option_map view) (slice_get_read xs (length xs) i item refl c.loop-index-test.true c.item-item.is))
     c.in-Err.ensures.error
+
+pub returns-in-Err-clause-takes : goal.returns-in-Err-clause-takes
+returns-in-Err-clause-takes g c = λ taken.
+    let xs = c.deref-item-items.result.now in
+    let i = c.loop-index.index in
+    let item = c.item-item.result in
+    let seen = ap (λ v. items (view v)) c.in-Array.is ∙ items-Array c.in-Array.items
+    ∙ ap (map view) (sym c.deref-item-items.ensures.value) in
+    c.below_index.ensures.memory (c.in-Err.ensures.takes (taken.1 i (view item)
+    (ap (λ vs. slice_get vs i) seen ∙ slice_get-map view xs i
+    ∙ ap (option_map view) (slice_get_read xs (length xs) i item refl c.loop-index-test.true c.item-item.is))))
 
 pub loop-index-preserved : goal.loop-index-preserved
 loop-index-preserved g c =

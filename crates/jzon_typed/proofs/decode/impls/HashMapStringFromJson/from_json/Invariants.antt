@@ -1,8 +1,0 @@
-use Rattle.std.specs.HashMap.{get_by_text}
-use Rattle.jzon_typed.specs.DecodeFields.{read_from}
-use Rattle.jzon_typed.proofs.DecodeMapSteps.{ReadsBut}
-use Rattle.jzon_typed.proofs.decode.impls.HashMapStringFromJson.from_json.Given as goal
-
--- the entries of the keys before the iterator's are read
-abbrev pub invariant-loop-key : goal.invariant-loop-key
-invariant-loop-key g l = ReadsBut g.T.FromJson.gives (read_from l.fields) l.key-iterator (get_by_text l.map)
