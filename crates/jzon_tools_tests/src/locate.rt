@@ -3,6 +3,7 @@
 use crate::common::{Tested, Tester, expect, expect_eq};
 use jzon::Reading;
 use jzon_pointer::locate;
+use jzon_typed::decode::{DecodeError, Expected, Found};
 
 /// A text, a pointer, and the offset, line and column of the value that it names.
 const FOUND: &[(&str, &str, (usize, usize, usize))] = &[
@@ -116,5 +117,39 @@ fn locates_keys(rt: HostRuntime) -> Tested {
         place.map(|place| (place.line, place.column)),
         Some((2, 2)),
     );
+    Ok(())
+}
+
+/// A text with a repeated key.
+const REPEATED: &str = "{\"a\": 1,\n\"a\": {\"b\": 2}}";
+
+/// Pointers into it, whether an entry is missing there, and the line and column of the error.
+const PLACED: &[(&str, bool, (usize, usize))] = &[
+    ("/a", false, (2, 6)),
+    ("/a/b", false, (2, 12)),
+    ("/a/c", true, (2, 6)),
+    ("/c", true, (1, 1)),
+];
+
+#[test]
+fn places_errors(rt: HostRuntime) -> Tested {
+    for (path, is_missing, want) in PLACED {
+        let pointer = String::from_str(rt.alloc(), path)?;
+        let error = if *is_missing {
+            DecodeError::Missing {
+                pointer,
+                expected: Expected::Value,
+            }
+        } else {
+            DecodeError::Wrong {
+                pointer,
+                expected: Expected::String,
+                found: Found::Null,
+            }
+        };
+        let located = error.in_text(rt.alloc(), REPEATED, &Reading::USUAL);
+        let found = located.place.map(|place| (place.line, place.column));
+        expect_eq(&rt, path, found, Some(*want));
+    }
     Ok(())
 }
