@@ -104,7 +104,7 @@ not_ok e a h = absurd (cc)
 ok_is : (a b : Value) → ◌≡◌ {A = Result Value PointerError} (Ok a) (Ok b) → a ≡ b
 ok_is a b h = cc
 
-changed-onto : (f : Value → List ℕ → Option Value) (v : Value) (u t : List ℕ) (us : List (List ℕ))
+pub changed-onto : (f : Value → List ℕ → Option Value) (v : Value) (u t : List ℕ) (us : List (List ℕ))
     → changed f v (u ∷ (us ++ t ∷ []))
     ≡ option_map (with_child v u) (option_and_then (λ c. changed f c (us ++ t ∷ [])) (child_of v u))
 changed-onto f v u t [] = refl

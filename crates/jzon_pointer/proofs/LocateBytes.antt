@@ -4,7 +4,7 @@ use Rattle.jzon_base.proofs.Common.{◌≡◌, ◌∙◌, ◌<◌, ◌≤◌, �
 use Rattle.jzon_base.proofs.Common.{refl, sym, ap, arith, nat_tests, inl, inr, cases_lt, get_or, encode_utf8, encode_utf8_all}
 use Rattle.jzon_base.proofs.Common.{encode_ascii}
 use Rattle.std.proofs.lemmas.Str.{length-encode, len_utf8_bounds}
-use Rattle.jzon_tree.proofs.Printing.PrintedUtf8.{encode_large}
+use Rattle.jzon.proofs.PrintedUtf8.{encode_large}
 use Rattle.jzon.specs.Reading.{Reading}
 use Rattle.jzon.specs.Grammar.{Node, Elements, Members, IsNode, IsWhitespace}
 use Rattle.jzon.proofs.Texts.TreeCharacters.{node_chars, elements_chars, members_chars}

@@ -25,7 +25,7 @@ use Rattle.jzon_tools.specs.Patch.{applied, applied_each, added_at, operated}
 use Rattle.jzon_pointer.specs.Names.{is_among}
 use Rattle.jzon_pointer.specs.Pointer.{index_named, token_key, child_of, tokens_of, with_child, updated, updated_at, changed, with_new, without, inserted_at, removed_at}
 use Rattle.jzon_tools.proofs.SortedEntries.{apart-sym}
-use Rattle.jzon_pointer.proofs.ChangeLaws.{with_child-same}
+use Rattle.jzon_pointer.proofs.ChangeLaws.{changed-onto, with_child-same}
 use Rattle.jzon_pointer.proofs.ChildSteps.{key-child}
 use Rattle.jzon_pointer.proofs.EscapedSteps.{token_key-escaped}
 
@@ -209,12 +209,6 @@ updated-last [] d u a b t at h =
     ∙ ap (λ o. option_map (with_child u t) (option_and_then (λ c. Some b) o)) at
 updated-last (s ∷ ts) d u a b t at h =
     updated-last_by (child_of d s) d u b s t ts (λ c g. updated-last ts c u a b t at g) h
-
-changed-onto : (f : Value → List ℕ → Option Value) (v : Value) (s t : List ℕ) (ts : List (List ℕ))
-    → changed f v (s ∷ (ts ++ t ∷ []))
-    ≡ option_map (with_child v s) (option_and_then (λ c. changed f c (ts ++ t ∷ [])) (child_of v s))
-changed-onto f v s t [] = refl
-changed-onto f v s t (x ∷ xs) = refl
 
 changed-last_by : (o : Option Value) (f : Value → List ℕ → Option Value) (d u : Value) (s t : List ℕ) (ts : List (List ℕ))
     → ((c : Value) → value_below c ts ≡ Some u → changed f c (ts ++ t ∷ []) ≡ updated (λ _. f u t) c ts)

@@ -70,12 +70,14 @@ IsBelow path t p = (p ≡ path ++ 47 ∷ t)
 abbrev pub operations_of : Changes → List Value
 operations_of c = map view c.operations.items
 
--- what the operations do
+-- the operation replaces what is at the path
 abbrev pub Replaces : List ℕ → Value → Value → Type 0
 Replaces path w op = (v : Value) → operated op v ≡ updated_at (λ _. Some w) v path
 
+-- it adds a value there
 abbrev pub Adds : List ℕ → Value → Value → Type 0
 Adds path w op = (v : Value) → operated op v ≡ added_at w v path
 
+-- it removes what is there
 abbrev pub Removes : List ℕ → Value → Type 0
 Removes path op = (v : Value) → operated op v ≡ removed_at v path

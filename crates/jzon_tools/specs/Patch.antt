@@ -120,10 +120,11 @@ abbrev pub copied_by : Op → Value → Value → ℕ
 copied_by Copy op v = option_map_or weight (placed_by Copy op v) 0
 copied_by _ op v = 0
 
--- the same of an operation; 0 if it has no meaning or no `path`
+-- the same of an operation as it stands in a patch; 0 if it has no meaning or no `path`
 abbrev pub depth_in : Value → Value → ℕ
 depth_in op v = option_map_or (λ o. option_map_or (λ path. depth_by o path op v) (text_at (codes "path") op) 0) (op_of op) 0
 
+-- what it copies from elsewhere
 abbrev pub copied_in : Value → Value → ℕ
 copied_in op v = option_map_or (λ o. copied_by o op v) (op_of op) 0
 

@@ -13,10 +13,12 @@ abbrev mutual
   weight (array vs) = 48 + weight_values vs
   weight (object ps) = 48 + weight_pairs ps
 
+  -- of elements
   pub weight_values : Values → ℕ
   weight_values no_values = 0
   weight_values (value v vs) = weight v + weight_values vs
 
+  -- of entries
   pub weight_pairs : ValuePairs → ℕ
   weight_pairs no_pairs = 0
   weight_pairs (pair k v ps) = length k + weight v + weight_pairs ps

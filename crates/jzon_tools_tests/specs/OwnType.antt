@@ -30,21 +30,25 @@ takes_text v = IsSome (text_in v)
 abbrev shows_port : ℕ → Value → Type 0
 shows_port n v = (v ≡ number (integer_parts (pos n))) × (n < 2 ^ 16)
 
+-- what the entries of a written server are
 abbrev pub ShowsServer : Server → Value → Type 0
 ShowsServer s v = (is_object v ≡ true) × HasEntry v (codes "host") (shows_text s.host)
     × HasEntry v (codes "port") (shows_port s.port) × HasEntry v (codes "secure") (λ w. w ≡ boolean s.is_secure)
     × HasEntry v (codes "tags") (ListMeans shows_text s.tags.items)
 
+-- which server is read
 abbrev pub GivesServer : Value → Server → Type 0
 GivesServer v s = HasEntry v (codes "host") (λ w. gives_text w s.host)
     × HasEntry v (codes "port") (λ w. IsNatural w s.port) × HasEntry v (codes "secure") (λ w. truth_in w ≡ Some s.is_secure)
     × HasEntry v (codes "tags") (λ w. (is_array w ≡ true) × AllZip gives_text (items w) s.tags.items)
 
+-- of which values one is read
 abbrev pub TakesServer : Value → Type 0
 TakesServer v = (is_object v ≡ true) × HasEntry v (codes "host") takes_text
     × HasEntry v (codes "port") (IsNaturalBelow (2 ^ 16)) × HasEntry v (codes "secure") (λ w. IsSome (truth_in w))
     × HasEntry v (codes "tags") (TakesItems takes_text)
 
+-- only an equal server is read from what is written
 pub server-back : (x y : Server) (v : Value) → ShowsServer x v → GivesServer v y
     → (((string_eq y.host x.host && nat_eq y.port x.port) && beq y.is_secure x.is_secure) && pointwise string_eq y.tags.items x.tags.items) ≡ true
 server-back x y v (is, host, port, secure, tags) (host', port', secure', tags') =
@@ -55,6 +59,7 @@ server-back x y v (is, host, port, secure, tags) (host', port', secure', tags') 
     (back-list shows_text gives_text string_eq back-text) x.tags.items y.tags.items v (codes "tags") tags tags' in
     and_from _ _ (and_from _ _ (and_from _ _ h p) s) t
 
+-- and one is read
 pub server-taken : (x : Server) (v : Value) → ShowsServer x v → TakesServer v
 server-taken x v (is, host, port, secure, tags) = (
   is,

@@ -8,17 +8,9 @@ use Rattle.std.proofs.Math.Nat.{mod-eq-sub-div-mul, div-mul-le_self}
 use Rattle.std.specs.Bool.{beq}
 use Rattle.std.specs.Cmp.{booleans_Decides}
 use Rattle.jzon.specs.Decimal.{Decimal, nan, parts, scaled, shifted, whole_part, is_whole, exact_fixed_point, same_decimal, signed}
-use Rattle.jzon_base.proofs.Numbers.Powers.{power_pos, eq-times}
+use Rattle.jzon_base.proofs.Numbers.Powers.{power_pos, cancel, eq-times}
+use Rattle.jzon_base.proofs.Numbers.Scaling.{scaled-down}
 use Rattle.jzon.specs.Lawful.{InRange}
-
-cancel : (a b t : ℕ) → 0 < t → a * t ≡ b * t → a ≡ b
-cancel a b t some h = eqb-true a b (sym (eq-times a b t some) ∙ eq-eqb (a * t) (b * t) h)
-
--- a number, scaled, from a higher exponent down to a lower one
-down : (m : ℕ) (e f : ℤ) (k : ℕ) → shifted e ≡ shifted f + k → scaled m e ≡ m * 10 ^ k * 10 ^ shifted f
-unfolding scaled
-down m e f k h =
-    ap (λ x. m * 10 ^ x) h ∙ ap (λ x. m * x) (pow-add 10 (shifted f) k) ∙ (omega arith)
 
 as_scaled : (m : ℕ) (e : ℤ) → m * 10 ^ shifted e ≡ scaled m e
 unfolding scaled
@@ -36,12 +28,12 @@ up_to i low = omega arith
 
 -- a whole number is its whole part
 sound : (m : ℕ) (e : ℤ) → FitsSigned w16 e → is_whole m e ≡ true → scaled m e ≡ scaled (whole_part m e) (pos 0)
-sound m (pos i) fits whole = down m (pos i) (pos 0) i refl ∙ as_scaled (m * 10 ^ i) (pos 0)
+sound m (pos i) fits whole = scaled-down m (pos i) (pos 0) i refl ∙ as_scaled (m * 10 ^ i) (pos 0)
 sound m (negsuc i) fits whole =
     let t = 10 ^ (i + 1) in
     let none : m % t ≡ 0 = eqb-true (m % t) 0 whole in
     let low : i ≤ 32767 = omega (arith, ints, fits.sfits) in
-    sym (down (m / t) (pos 0) (negsuc i) (i + 1) (up_to i low)
+    sym (scaled-down (m / t) (pos 0) (negsuc i) (i + 1) (up_to i low)
     ∙ ap (λ x. x * 10 ^ shifted (negsuc i)) (whole_times m t none) ∙ as_scaled m (negsuc i))
 
 -- a number that is k is whole, and k is its whole part
@@ -50,7 +42,7 @@ complete : (m : ℕ) (e : ℤ) (k : ℕ) → FitsSigned w16 e → scaled m e ≡
 complete m (pos i) k fits h = (
   refl,
   cancel (m * 10 ^ i) k (10 ^ shifted (pos 0)) (power_pos (shifted (pos 0)))
-      (sym (down m (pos i) (pos 0) i refl) ∙ h ∙ sym (as_scaled k (pos 0))),
+      (sym (scaled-down m (pos i) (pos 0) i refl) ∙ h ∙ sym (as_scaled k (pos 0))),
 )
 complete m (negsuc i) k fits h =
     let t = 10 ^ (i + 1) in
@@ -58,7 +50,7 @@ complete m (negsuc i) k fits h =
     let low : i ≤ 32767 = omega (arith, ints, fits.sfits) in
     let is : m ≡ k * t + 0 =
     cancel m (k * t) (10 ^ shifted (negsuc i)) (power_pos (shifted (negsuc i)))
-    (as_scaled m (negsuc i) ∙ h ∙ down k (pos 0) (negsuc i) (i + 1) (up_to i low)) ∙ (omega arith) in (
+    (as_scaled m (negsuc i) ∙ h ∙ scaled-down k (pos 0) (negsuc i) (i + 1) (up_to i low)) ∙ (omega arith) in (
       eq-eqb (m % t) 0 (ap (λ x. x % t) is ∙ mod-mul-add k t 0 some),
       ap (λ x. x / t) is ∙ div-mul-add k t 0 some,
     )

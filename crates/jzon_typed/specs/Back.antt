@@ -29,34 +29,41 @@ use Rattle.jzon_typed.specs.DecodeFields.{HasEntry}
 use Rattle.jzon_typed.specs.DecodeMaps.{TakesItems}
 use Rattle.jzon_typed.specs.Integers.{may_be_cut, may_be_cut_in, natural_in, whole_in, IsNatural, IsNaturalBelow, IsWhole, IsWholeOf}
 
+-- of what a boolean is written as, only an equal one is read
 pub back-bool : (x y : Bool) (v : Value) → v ≡ boolean x → truth_in v ≡ Some y → beq y x ≡ true
 back-bool x y v h g =
     let is : x ≡ y = same_Some x y (sym (ap truth_in h) ∙ g) in
     subst (λ (b : Bool). beq b x ≡ true) is (bool_eq_equiv.refl x)
 
+-- and one is read
 pub taken-bool : (x : Bool) (v : Value) → v ≡ boolean x → IsSome (truth_in v)
 taken-bool x v h = ap (λ w. is_some (truth_in w)) h
 
+-- the same of a number
 pub back-number : (x y : Decimal) (v : Value) → v ≡ number x → number_in v ≡ Some y → same_decimal y x ≡ true
 back-number x y v h g =
     let is : x ≡ y = same_Some x y (sym (ap number_in h) ∙ g) in
     subst (λ (d : Decimal). same_decimal d x ≡ true) is (same_equiv.refl (number x))
 
+-- and one is read
 pub taken-number : (x : Decimal) (v : Value) → v ≡ number x → IsSome (number_in v)
 taken-number x v h = ap (λ w. is_some (number_in w)) h
 
+-- of a value as it is, only an equal one is read
 pub back-value : (x y : JsonValue) (v : Value) → v ≡ view x → view y ≡ v → same (view y) (view x) ≡ true
 back-value x y v h g = subst (λ w. same w (view x) ≡ true) (sym (g ∙ h)) (same_equiv.refl (view x))
 
 nat-read : (n : ℕ) → natural_in (number (integer_parts (pos n))) ≡ Some n
 nat-read n = let one : n * 10 ^ 0 ≡ n = omega arith in ap (λ (m : ℕ). Some m) one
 
+-- of an integer from 0 on
 pub back-nat : (b x y : ℕ) (v : Value) → (v ≡ number (integer_parts (pos x))) × (x < b) → IsNatural v y
     → nat_eq y x ≡ true
 back-nat b x y v h g =
     let is : x ≡ y = same_Some x y (sym (ap natural_in h.0 ∙ nat-read x) ∙ g.0) in
     subst (λ (n : ℕ). nat_eq n x ≡ true) is (nat_eq_equiv.refl x)
 
+-- and one is read, if it is below the bound
 pub taken-nat : (b x : ℕ) (v : Value) → (v ≡ number (integer_parts (pos x))) × (x < b) → IsNaturalBelow b v
 taken-nat b x v h = (x, (ap natural_in h.0 ∙ nat-read x, ap may_be_cut_in h.0), h.1)
 
@@ -64,6 +71,7 @@ int-read : (n : ℤ) → whole_in (number (integer_parts n)) ≡ Some n
 int-read (pos n) = let one : n * 10 ^ 0 ≡ n = omega arith in ap (λ (m : ℕ). Some (pos m)) one
 int-read (negsuc n) = let one : suc n * 10 ^ 0 ≡ suc n = omega arith in ap (λ (m : ℕ). Some (neg_ℤ (pos m))) one
 
+-- of an integer that may be negative
 pub back-int : (w : Width) (x y : ℤ) (v : Value) → (v ≡ number (integer_parts x)) × FitsSigned w x → IsWhole v y
     → int_eq y x ≡ true
 back-int w x y v h g =
@@ -74,15 +82,18 @@ uncut-int : (n : ℤ) → may_be_cut (integer_parts n) ≡ false
 uncut-int (pos n) = refl
 uncut-int (negsuc n) = refl
 
+-- and one is read, if it fits
 pub taken-int : (w : Width) (x : ℤ) (v : Value) → (v ≡ number (integer_parts x)) × FitsSigned w x → IsWholeOf w v
 taken-int w x v h = (x, (ap whole_in h.0 ∙ int-read x, ap may_be_cut_in h.0 ∙ uncut-int x), h.1)
 
+-- of a string
 pub back-text : (x y : String Global) (v : Value) → v ≡ text (kind_of (string_bytes x)) (string_bytes x)
     → text_in v ≡ Some (string_bytes y) → string_eq y x ≡ true
 back-text x y v h g =
     let is : string_bytes x ≡ string_bytes y = same_Some (string_bytes x) (string_bytes y) (sym (ap text_in h) ∙ g) in
     subst (λ (l : List ℕ). bytes_eq l (string_bytes x) ≡ true) is ((bytes_eq-Decides (string_bytes x) (string_bytes x)).1 refl)
 
+-- and one is read
 pub taken-text : (x : String Global) (v : Value) → v ≡ text (kind_of (string_bytes x)) (string_bytes x) → IsSome (text_in v)
 taken-text x v h = ap (λ w. is_some (text_in w)) h
 
@@ -103,6 +114,7 @@ module _ {X : Type 0} (S : X → Value → Type 0) where
   zip-back G E back (x ∷ xs) (y ∷ ys) (v ∷ vs) s g =
       and_from (E y x) (pointwise E ys xs) (back x y v s.0 g.0) (zip-back G E back xs ys vs s.1 g.1)
 
+  -- of a list, if it holds of its elements
   pub back-list : (G : Value → X → Type 0) (E : X → X → Bool)
       → ((x y : X) (v : Value) → S x v → G v y → E y x ≡ true) → (xs ys : List X) (v : Value) → ListMeans S xs v
       → (is_array v ≡ true) × AllZip G (items v) ys → pointwise E ys xs ≡ true
@@ -117,6 +129,7 @@ module _ {X : Type 0} (S : X → Value → Type 0) where
   zip-taken P taken (x ∷ xs) (v ∷ vs) each zero w at = subst P (same_Some v w at) (taken x v each.0)
   zip-taken P taken (x ∷ xs) (v ∷ vs) each (suc i) w at = zip-taken P taken xs vs each.1 i w at
 
+  -- and one is read
   pub taken-list : (P : Value → Type 0) → ((x : X) (v : Value) → S x v → P v) → (xs : List X) (v : Value)
       → ListMeans S xs v → TakesItems P v
   taken-list P taken xs v (vs, is, each) = (
@@ -126,6 +139,7 @@ module _ {X : Type 0} (S : X → Value → Type 0) where
 
   -- ---- an option, if nothing is written as null
 
+  -- of an option, if it holds of what is inside
   pub back-option : (G : Value → X → Type 0) (E : X → X → Bool)
       → ((x y : X) (v : Value) → S x v → G v y → E y x ≡ true) → ((x : X) → S x null → ⊥) → (x y : Option X) (v : Value)
       → OptionMeans S x v → MatchOption y (v ≡ null) (λ z. (v ≡ null → ⊥) × G v z) → option_eq E y x ≡ true
@@ -134,6 +148,7 @@ module _ {X : Type 0} (S : X → Value → Type 0) where
   back-option G E back never (Some x) None v s g = absurd (never x (subst (S x) g s))
   back-option G E back never (Some x) (Some y) v s g = back x y v s g.1
 
+  -- and one is read
   pub taken-option : (P : Value → Type 0) → ((x : X) (v : Value) → S x v → P v) → (x : Option X) (v : Value)
       → OptionMeans S x v → (v ≡ null) ⊎ P v
   taken-option P taken None v s = inl s
@@ -148,15 +163,19 @@ is_not_null v = true
 null-not : (v : Value) → is_not_null v ≡ true → null ≡ v → ⊥
 null-not v h e = false≢true (ap is_not_null e ∙ h)
 
+-- a number isn't null
 pub no-number : (d : Decimal) → null ≡ number d → ⊥
 no-number d = null-not (number d) refl
 
+-- nor is a boolean
 pub no-boolean : (b : Bool) → null ≡ boolean b → ⊥
 no-boolean b = null-not (boolean b) refl
 
+-- nor a string
 pub no-text : (k : Kind) (s : List ℕ) → null ≡ text k s → ⊥
 no-text k s = null-not (text k s) refl
 
+-- nor an array
 pub no-list : {X : Type 0} (S : X → Value → Type 0) (xs : List X) → ListMeans S xs null → ⊥
 no-list S xs (vs, is, each) = null-not (array (values_of vs)) refl is
 
