@@ -4,8 +4,10 @@
 use jzon::JsonValue;
 use jzon_typed::decode::{self, DecodeError, Fields, FromJson};
 use jzon_typed::encode::{self, Members, ToJson};
+use std::alloc::Global;
+use std::collections::BTreeMap;
 use std::io::{self, BufRead, BufReader};
-use std::{alloc::Global, collections::BTreeMap, result::Result};
+use std::result::Result;
 
 #[derive(Clone, Copy)]
 enum Level {

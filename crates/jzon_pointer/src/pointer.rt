@@ -68,7 +68,7 @@ impl PointerError {
     /// members`.
     ///
     /// ```rust
-    /// if let Err(error) = pointer::find(&config, "/servers/2/port") {
+    /// if let Err(error) = jzon_pointer::find(&config, "/servers/2/port") {
     ///     let words = format!(in alloc; "{}", error.in_pointer("/servers/2/port"))?;
     ///     assert_eq!(rt; words.as_str(), "/servers/2/port: /servers has 2 elements");
     /// }
@@ -243,7 +243,7 @@ impl From<InPointer<'_>> for io::Error {
 /// The value that a pointer names.
 ///
 /// ```rust
-/// let port = pointer::get(&config, "/servers/0/port");
+/// let port = jzon_pointer::get(&config, "/servers/0/port");
 /// ```
 pub fn get<'a>(value: &'a JsonValue, path: &str) -> Option<&'a JsonValue>
     ensures { option_map (λ v. view v.now) result
@@ -281,7 +281,7 @@ pub fn find<'a>(value: &'a JsonValue, path: &str) -> Result<&'a JsonValue, Point
 ///
 /// ```rust
 /// let mut path = String::from_str(alloc, "/servers/0")?;
-/// pointer::push_token(&mut path, "a/b")?;
+/// jzon_pointer::push_token(&mut path, "a/b")?;
 /// assert_eq!(rt; path.as_str(), "/servers/0/a~1b");
 /// ```
 #[tactic(auto, using(crate::proofs::EscapedSteps::pushing))]

@@ -13,7 +13,7 @@ use std::fmt;
 /// of more than 200 characters the first and the last 100 are shown, with `..` between them.
 ///
 /// ```rust
-/// println!(rt; "{}", ShownPointer(path))?;
+/// let shown = format!(in alloc; "{}", ShownPointer(path))?;
 /// ```
 #[derive(Clone, Copy)]
 pub struct ShownPointer<'a>(pub &'a str);

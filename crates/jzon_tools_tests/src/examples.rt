@@ -3,8 +3,10 @@
 use crate::common::Tested;
 use jzon::JsonValue;
 use jzon_tools::canonical::{canonical_text, of_text, sort_keys};
+use jzon_tools::edit;
+use jzon_tools::patch::{self, Limits};
 use jzon_tools::redact::redact;
-use jzon_tools::{edit, patch};
+use jzon_typed::decode;
 
 #[test]
 fn canonical_order(rt: HostRuntime) -> Tested {
@@ -44,6 +46,31 @@ fn patched_config(rt: HostRuntime) -> Tested {
     patch::apply(alloc, &mut config, &patch)?;
     let dump = config.dump(alloc)?;
     assert_eq!(rt; dump.as_str(), r#"{"port":80,"tags":["a","b"]}"#);
+    let limits = Limits {
+        copied: 65_536,
+        ..Limits::USUAL
+    };
+    patch::apply_within(alloc, &mut config, &patch, &limits)?;
+    Ok(())
+}
+
+#[test]
+fn difference(rt: HostRuntime) -> Tested {
+    let alloc = rt.alloc();
+    let mut old = jzon::parse(alloc, r#"{"port": 80, "tags": ["a", "b"]}"#)?;
+    let new = jzon::parse(alloc, r#"{"port": 81, "tags": ["b"]}"#)?;
+    let patch = patch::diff(alloc, &old, &new)?;
+    patch::apply(alloc, &mut old, &patch)?;
+    assert!(rt; old == new);
+    Ok(())
+}
+
+#[test]
+fn element_of_a_pair(rt: HostRuntime) -> Tested {
+    let alloc = rt.alloc();
+    let value = jzon::parse(alloc, "[1, 2]")?;
+    let from: u8 = decode::element(alloc, &value, 0)?;
+    assert_eq!(rt; from, 1);
     Ok(())
 }
 
@@ -66,7 +93,11 @@ fn pointed_port(rt: HostRuntime) -> Tested {
     edit::update(&mut config, "/servers/0/port", |port| {
         *port = JsonValue::from(81u16);
     })?;
-    edit::insert(alloc, &mut config, "/servers/-", JsonValue::Null)?;
+    let path = "/servers/-";
+    let new = JsonValue::Null;
+    if edit::nests_within(path, &new, 512) {
+        edit::insert(alloc, &mut config, path, new)?;
+    }
     let dump = config.dump(alloc)?;
     assert_eq!(rt; dump.as_str(), r#"{"servers":[{"port":81},null]}"#);
     if let Err(error) = jzon_pointer::find(&config, "/servers/2/port") {

@@ -42,7 +42,7 @@ pub trait ToJson {
 /// The compact text of the source.
 ///
 /// ```rust
-/// let text = encode::to_text(alloc, &config)?;
+/// let written = encode::to_text(alloc, &fleet)?;
 /// ```
 pub fn to_text<T: ToJson>(alloc: Global, source: &T) -> Result<String>
     ensures { IfOk result (λ text. (v : Value) × T.shows source.now v

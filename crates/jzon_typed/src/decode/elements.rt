@@ -15,7 +15,7 @@ use std::result::Result;
 /// is no array, or has no such element, is an error.
 ///
 /// ```rust
-/// let range = Range { from: element(alloc, value, 0)?, to: element(alloc, value, 1)? };
+/// let from: u8 = decode::element(alloc, &value, 0)?;
 /// ```
 pub fn element<T: FromJson>(
     alloc: Global,

@@ -192,7 +192,7 @@ impl DecodeError {
     /// object is named by its size in any case. A key in the pointer is kept.
     ///
     /// ```rust
-    /// Err(fields.expected("password", "at least 12 characters").without_value())
+    /// let error = error.without_value();
     /// ```
     pub fn without_value(self) -> DecodeError
         ensures error { (v : Value) → IsErrorIn v self → IsErrorIn v result }

@@ -32,7 +32,7 @@ pub trait NotNull: ToJson {
 /// Writes the source and reads it back. Fails with `OutOfMemory` only.
 ///
 /// ```rust
-/// let copy = encode::read_back(alloc, &ports)?; // copy == ports
+/// let copy = encode::read_back(alloc, &server)?;
 /// ```
 pub fn read_back<T: ReadsBack>(alloc: Global, source: &T) -> Result<T, DecodeError>
     ensures value { IfOk result (λ copy. T.eq copy source.now ≡ true) }
