@@ -216,7 +216,10 @@ pub fn apply(alloc: Global, value: &mut JsonValue, patch: &JsonValue) -> Result<
 /// no more than the limit.
 ///
 /// ```rust
-/// let limits = Limits { copied: 65_536, ..Limits::USUAL };
+/// let limits = Limits {
+///     copied: 65_536,
+///     ..Limits::USUAL
+/// };
 /// patch::apply_within(alloc, &mut config, &patch, &limits)?;
 /// ```
 pub fn apply_within(

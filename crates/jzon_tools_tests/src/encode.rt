@@ -4,7 +4,7 @@ use crate::common::{Tested, Tester, expect, expect_eq};
 use jzon::JsonValue;
 use jzon::number::Number;
 use jzon_typed::decode::{self, DecodeError, Fields, FromJson};
-use jzon_typed::encode::{self, Members, ToJson};
+use jzon_typed::encode::{self, Members, ReadsBack, ToJson};
 use std::alloc::Global;
 use std::collections::BTreeMap;
 use std::result::Result;
@@ -127,5 +127,36 @@ fn writes_the_types_of_std(rt: HostRuntime) -> Tested {
         r#"[1,"two",null]"#,
     );
     writes(&rt, &Box::new(alloc, 5u8)?, "5");
+    Ok(())
+}
+
+fn reads_back<T: ReadsBack + Drop>(rt: &impl Tester, words: &str, source: &T) {
+    match encode::read_back(rt.alloc(), source) {
+        Ok(copy) => expect(rt, words, copy == *source),
+        Err(_) => expect(rt, words, false),
+    }
+}
+
+/// Each type at which the law of reading back is stated.
+#[test]
+fn reads_back_what_it_writes(rt: HostRuntime) -> Tested {
+    let alloc = rt.alloc();
+    reads_back(&rt, "u8", &255u8);
+    reads_back(&rt, "u16", &65535u16);
+    reads_back(&rt, "u32", &4294967295u32);
+    reads_back(&rt, "u64", &18446744073709551615u64);
+    reads_back(&rt, "usize", &0usize);
+    reads_back(&rt, "i8", &-128i8);
+    reads_back(&rt, "i16", &-32768i16);
+    reads_back(&rt, "i32", &-2147483648i32);
+    reads_back(&rt, "i64", &-9223372036854775808i64);
+    reads_back(&rt, "isize", &-1isize);
+    reads_back(&rt, "bool", &true);
+    reads_back(&rt, "number", &Number::from_parts(true, 15, -1));
+    reads_back(&rt, "value", &jzon::array![alloc; 1u8, "two", null]);
+    reads_back(&rt, "string", &String::from_str(alloc, "é")?);
+    reads_back(&rt, "box", &Box::new(alloc, 5u8)?);
+    reads_back(&rt, "option", &Some(7u8));
+    reads_back(&rt, "list", &vec![in alloc; None, Some(7i64)]?);
     Ok(())
 }

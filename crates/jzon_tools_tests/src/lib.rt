@@ -17,7 +17,6 @@ mod locate;
 #[cfg(test)]
 mod merge;
 #[cfg(test)]
-mod own_type;
 #[cfg(test)]
 mod patch;
 #[cfg(test)]

@@ -25,7 +25,7 @@ use std::alloc::Global;
 ///         Members::new(alloc)
 ///             .put("host", &self.host)?
 ///             .put("port", &self.port)?
-///             .put("tags", &self.tags)?
+///             .put("secure", &self.secure)?
 ///             .done()
 ///     }
 /// }

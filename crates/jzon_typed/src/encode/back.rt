@@ -32,7 +32,10 @@ pub trait NotNull: ToJson {
 /// Writes the source and reads it back. Fails with `OutOfMemory` only.
 ///
 /// ```rust
-/// let copy = encode::read_back(alloc, &server)?;
+/// match encode::read_back(rt.alloc(), source) {
+///     Ok(copy) => expect(rt, words, copy == *source),
+///     Err(_) => expect(rt, words, false),
+/// }
 /// ```
 pub fn read_back<T: ReadsBack>(alloc: Global, source: &T) -> Result<T, DecodeError>
     ensures value { IfOk result (λ copy. T.eq copy source.now ≡ true) }
