@@ -7,7 +7,7 @@ use Rattle.std.proofs.lemmas.Str.{length-encode, len_utf8_bounds}
 use Rattle.jzon.proofs.PrintedUtf8.{encode_large}
 use Rattle.jzon.specs.Reading.{Reading}
 use Rattle.jzon.specs.Grammar.{Node, Elements, Members, IsNode, IsWhitespace}
-use Rattle.jzon.proofs.Texts.TreeCharacters.{node_chars, elements_chars, members_chars}
+use Rattle.jzon.specs.TreeCharacters.{node_chars, elements_chars, members_chars}
 use Rattle.jzon_pointer.specs.Locate.{after_byte, skim}
 use Rattle.jzon_pointer.specs.declared.locate.Scan.{Scan}
 use Rattle.jzon_pointer.specs.declared.locate.Scan.TheVariants.{Outside, Quoted, Escaped}
