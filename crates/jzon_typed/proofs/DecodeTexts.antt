@@ -2,8 +2,8 @@
 use Rattle.std.proofs.Common.{◌≡◌, ◌++◌, ℕ, List, Bor, codes, map, refl, string_bytes}
 use Rattle.std.specs.declared.alloc.Global.{Global}
 use Rattle.std.specs.declared.string.String.{String}
-use Rattle.jzon_typed.specs.DecodeText.{decode_error_text, expected_text, found_text, names_text, place_text}
-use Rattle.jzon_pointer.specs.Shown.{pointer_shown}
+use Rattle.jzon_typed.specs.DecodeText.{decode_error_text, expected_text, found_text}
+use Rattle.jzon_pointer.specs.Shown.{names_text, place_text, pointer_shown}
 use Rattle.jzon_typed.specs.declared.decode.error.DecodeError.{DecodeError}
 use Rattle.jzon_typed.specs.declared.decode.error.DecodeError.TheVariants.{Wrong, Missing, Unknown}
 use Rattle.jzon_typed.specs.declared.decode.error.Expected.{Expected}

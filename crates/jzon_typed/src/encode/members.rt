@@ -31,7 +31,7 @@ impl Members {
     }
 
     /// With an entry more. A key that is there gets the value at its position.
-    #[tactic(auto, using(crate::proofs::Merges::merges))]
+    #[tactic(auto, using(crate::proofs::DecodeViews::writing))]
     pub fn put<T: ToJson>(mut self, key: &str, source: &T) -> Result<Members>
         ensures put { IfOk result (λ members. (v : Value) × T.shows source.now v
             × (viewed (entries_of members.object)

@@ -1,7 +1,8 @@
 use Rattle.std.proofs.Common.{◌∷◌, ◌++◌, sym, ap, ◌∙◌, subst}
 use Rattle.jzon_typed.specs.Decode.{IsErrorIn, moved_to}
 use Rattle.jzon_pointer.specs.Escaped.{escaped}
-use Rattle.jzon_typed.proofs.DecodeSteps.{below-error, key-child}
+use Rattle.jzon_typed.proofs.DecodeSteps.{below-error}
+use Rattle.jzon_pointer.proofs.ChildSteps.{key-child}
 use Rattle.jzon_pointer.proofs.EscapedSteps.{lacks-escaped}
 use Rattle.jzon_typed.proofs.decode.error.DecodeError.below_key.Goals as goal
 
