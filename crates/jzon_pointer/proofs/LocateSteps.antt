@@ -15,7 +15,6 @@ use Rattle.jzon.specs.Grammar as grammar
 use Rattle.jzon.specs.TreeCharacters.{fraction_chars, sign_chars, exponent_chars, magnitude_chars, numeral_chars}
 use Rattle.jzon.specs.TreeCharacters.{item_chars, items_chars, key_chars, node_chars, elements_chars, members_chars}
 use Rattle.jzon_pointer.specs.Locate.{after_string, closed, parted, skim, string_rest}
-use Rattle.jzon_pointer.specs.declared.locate.Scan.{Scan}
 use Rattle.jzon_pointer.specs.declared.locate.Scan.TheVariants.{Outside, Quoted, Escaped}
 
 -- ---- outside of strings

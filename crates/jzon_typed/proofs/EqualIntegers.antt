@@ -1,14 +1,14 @@
 -- Equal numbers are the same integer, or none is one.
-use Rattle.std.proofs.Common.{◌≡◌, ◌≤◌, ◌<◌, ℕ, zero, suc, ◌+◌, ◌-◌, ◌*◌, ◌^◌, ◌/◌, ◌%◌, ◌==◌, ◌&&◌, ◌||◌, ℤ, pos, negsuc, neg_ℤ, ◌+ℤ◌}
-use Rattle.std.proofs.Common.{Bool, true, false, Option, None, Some, if◌then◌else◌, refl, sym, ap, ◌∙◌, subst, arith, FitsSigned, w16, inl, inr}
+use Rattle.std.proofs.Common.{◌≡◌, ◌≤◌, ◌<◌, ℕ, ◌+◌, ◌*◌, ◌^◌, ◌/◌, ◌%◌, ◌==◌, ◌&&◌, ◌||◌, ℤ, pos, negsuc, ◌+ℤ◌}
+use Rattle.std.proofs.Common.{Bool, true, false, Option, None, Some, if◌then◌else◌, refl, sym, ap, ◌∙◌, arith, FitsSigned, w16}
 use Rattle.std.proofs.lemmas.Int.{ints}
-use Rattle.std.proofs.lemmas.Bool.{eq-eqb, eqb-true, false≢true, and_parts, or_parts}
-use Rattle.std.proofs.lemmas.Nat.{div-mul-add, mod-mul-add, pow-add}
+use Rattle.std.proofs.lemmas.Bool.{eq-eqb, eqb-true, false≢true, and_parts}
+use Rattle.std.proofs.lemmas.Nat.{div-mul-add, mod-mul-add}
 use Rattle.std.proofs.Math.Nat.{mod-eq-sub-div-mul, div-mul-le_self}
 use Rattle.std.specs.Bool.{beq}
 use Rattle.std.specs.Cmp.{booleans_Decides}
 use Rattle.jzon.specs.Decimal.{Decimal, nan, parts, scaled, shifted, whole_part, is_whole, exact_fixed_point, same_decimal, signed}
-use Rattle.jzon_base.proofs.Numbers.Powers.{power_pos, cancel, eq-times}
+use Rattle.jzon_base.proofs.Numbers.Powers.{power_pos, cancel}
 use Rattle.jzon_base.proofs.Numbers.Scaling.{scaled-down}
 use Rattle.jzon.specs.Lawful.{InRange}
 

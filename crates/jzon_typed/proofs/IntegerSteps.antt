@@ -1,5 +1,5 @@
 -- An integer that is written as one is the integer that the number is.
-use Rattle.std.proofs.Common.{◌≡◌, ℕ, zero, suc, ◌+◌, ◌*◌, ◌^◌, ◌<◌, ℤ, pos, negsuc, neg_ℤ, Bool, true, false, Option, None, Some, if◌then◌else◌, refl, sym, ap, ◌∙◌, subst, arith, FitsSigned}
+use Rattle.std.proofs.Common.{◌≡◌, ℕ, ◌*◌, ◌^◌, ◌<◌, ℤ, pos, Bool, true, false, Option, None, Some, if◌then◌else◌, refl, sym, ap, ◌∙◌, subst, arith, FitsSigned}
 use Rattle.std.proofs.lemmas.Bool.{false≢true}
 use Rattle.std.proofs.lemmas.Bool.Decides.{Decides-int_eq}
 use Rattle.std.proofs.lemmas.Option.{none-some, same_Some}
@@ -9,7 +9,7 @@ use Rattle.std.specs.Prelude.{SomeIff, IsSome}
 use Rattle.jzon.specs.Decimal.{Decimal, nan, parts, integer_of, unsigned_of, signed, SomeWhere}
 use Rattle.jzon.specs.Readers.{integer_in, unsigned_in}
 use Rattle.jzon.specs.Value.{Value, null, boolean, text, number, array, object}
-use Rattle.jzon_typed.specs.Integers.{natural_in, whole_in, may_be_cut_in, IsNatural, IsNaturalBelow, IsWhole, IsWholeOf}
+use Rattle.jzon_typed.specs.Integers.{natural_in, whole_in, IsNaturalBelow, IsWholeOf}
 
 one : (m : ℕ) → m * 10 ^ 0 ≡ m
 one m = omega arith

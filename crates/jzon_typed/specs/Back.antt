@@ -1,6 +1,6 @@
 -- What is written of a value is taken, and gives only results equal to it. (These are proofs; they are here because the
 -- laws of `ReadsBack` cite them.)
-use Rattle.std.specs.Prelude.{refl, List, [], ◌∷◌, string_bytes, ◌≡◌, ◌<◌, ◌*◌, ◌^◌, ℕ, zero, suc, ℤ, pos, negsuc, neg_ℤ, Bool, true, false, ◌&&◌, Option, None, Some, is_some, IsSome, MatchOption, ◌⊎◌, FitsSigned, nat_eq, slice_get}
+use Rattle.std.specs.Prelude.{refl, List, [], ◌∷◌, string_bytes, ◌≡◌, ◌<◌, ◌*◌, ◌^◌, ℕ, zero, suc, ℤ, pos, negsuc, neg_ℤ, Bool, true, false, Option, None, Some, is_some, IsSome, MatchOption, ◌⊎◌, FitsSigned, nat_eq, slice_get}
 use Rattle.std.specs.Cmp.Lexicographic.{pointwise}
 use Rattle.std.specs.List.{AllZip}
 use Rattle.std.specs.Option.{option_eq}

@@ -1,16 +1,12 @@
 -- What `Display` shows of an error of a reading, and its kind as an `io::Error` (docs/TOOLS.md).
-use Rattle.std.specs.Prelude.{ℕ, List, [], ◌∷◌, ◌++◌, Option, Some, Bool, false, ◌==◌, if◌then◌else◌}
-use Rattle.std.specs.Prelude.{codes, decimal, flat_map, length, map, string_bytes}
+use Rattle.std.specs.Prelude.{ℕ, List, ◌++◌, Option, Some, Bool, false, ◌==◌, if◌then◌else◌}
+use Rattle.std.specs.Prelude.{codes, decimal, map, string_bytes}
 use Rattle.std.specs.declared.io.ErrorKind.{ErrorKind}
 use Rattle.std.specs.declared.io.ErrorKind.TheVariants as kind
-use Rattle.jzon.specs.Error.{Error}
-use Rattle.jzon.specs.Error.TheVariants.{UnexpectedCharacter}
 use Rattle.jzon.specs.ErrorText.{io_kind}
 use Rattle.jzon.specs.ErrorText.{place_text as position_text}
 use Rattle.jzon.specs.declared.place.Place.{Place}
-use Rattle.jzon.specs.Located.{located_text}
 use Rattle.jzon.specs.NumberText.{decimal_text}
-use Rattle.jzon.specs.declared.located.LocatedError.{LocatedError}
 use Rattle.jzon.specs.Text.{boolean_text}
 use Rattle.jzon_typed.specs.Decode.{is_of_text}
 use Rattle.jzon_pointer.specs.ErrorTexts.{primitive_text}

@@ -4,7 +4,7 @@ use Rattle.std.specs.Int.{Width}
 use Rattle.std.specs.Ordering.{int_eq}
 use Rattle.jzon.specs.Decimal.{Decimal, nan, parts, same_decimal}
 use Rattle.jzon.specs.Lawful.{InRange}
-use Rattle.jzon.specs.Readers.{exact_fixed_point_in, number_in}
+use Rattle.jzon.specs.Readers.{exact_fixed_point_in}
 use Rattle.jzon.specs.Value.{Value, number}
 
 -- the integer
