@@ -1,5 +1,5 @@
 -- What the operations that `diff` makes do to the elements of an array.
-use Rattle.std.proofs.Common.{◌≡◌, ℕ, zero, suc, ◌+◌, ◌<◌, ◌≤◌, ◌^◌, List, [], ◌∷◌, ◌++◌, Bool, true, false, not, nat_lt, if◌then◌else◌, Option, None, Some}
+use Rattle.std.proofs.Common.{◌≡◌, ℕ, zero, suc, ◌<◌, ◌≤◌, ◌^◌, List, [], ◌∷◌, ◌++◌, Bool, true, false, not, nat_lt, if◌then◌else◌, None, Some}
 use Rattle.std.proofs.Common.{option_map, option_and_then, slice_get, slice_set, get_or, map, take, drop, length, refl, sym, ap, ◌∙◌, subst, append_assoc, append-nil, arith, length-append}
 use Rattle.std.proofs.lemmas.Bool.{false≢true, ltb-true, and_parts, and_from}
 use Rattle.std.proofs.lemmas.List.{length-take-le, take-append-drop, drop_all}
@@ -15,7 +15,7 @@ use Rattle.jzon.specs.JsonValue.{JsonValue}
 use Rattle.jzon.specs.Measure.{size, largest}
 use Rattle.jzon.specs.Same.{same, same_items}
 use Rattle.jzon.specs.SameLaws.{same_equiv}
-use Rattle.jzon.specs.Value.{Value, array, list_of_values, values_of}
+use Rattle.jzon.specs.Value.{Value, array, values_of}
 use Rattle.jzon.specs.View.{view}
 use Rattle.jzon.proofs.ValueLaws.{list_of_values-values_of}
 use Rattle.jzon_tools.specs.Diff.{TurnsAt, AddsChanges, AddsElements, AllSame, IsPartly, IsBelow, Adds, Removes}

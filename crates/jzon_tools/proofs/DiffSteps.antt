@@ -19,11 +19,11 @@ use Rattle.jzon.specs.SameLaws.{same_at, same_equiv, object-elim, object-intro}
 use Rattle.jzon.specs.Value.{Value, null, boolean, text, number, array, object, no_values, list_of_values, list_of_pairs, values_of, pairs_of}
 use Rattle.jzon.proofs.PairLaws.{bytes_eq-other, find-put_same, find-put_other, find-cut_same, find-cut_other, distinct-put, distinct-cut}
 use Rattle.jzon.proofs.ValueLaws.{find-viewed, list_of_values-values_of, list_of_pairs-pairs_of}
-use Rattle.jzon_tools.specs.Diff.{value_below, TurnsAt, AddsChanges, ChangesMember, AddsMember, IsBelow, Replaces, Adds, Removes, TurnsInto}
+use Rattle.jzon_tools.specs.Diff.{value_below, TurnsAt, AddsChanges, AddsMember, IsBelow, Replaces, Adds, Removes, TurnsInto}
 use Rattle.jzon_pointer.specs.Escaped.{escaped}
 use Rattle.jzon_tools.specs.Patch.{applied, applied_each, added_at, operated}
 use Rattle.jzon_pointer.specs.Names.{is_among}
-use Rattle.jzon_pointer.specs.Pointer.{index_named, token_key, child_of, tokens_of, with_child, updated, updated_at, changed, with_new, without, inserted_at, removed_at}
+use Rattle.jzon_pointer.specs.Pointer.{index_named, token_key, child_of, tokens_of, with_child, updated, changed, with_new, without, inserted_at}
 use Rattle.jzon_tools.proofs.SortedEntries.{apart-sym}
 use Rattle.jzon_pointer.proofs.ChangeLaws.{changed-onto, with_child-same}
 use Rattle.jzon_pointer.proofs.ChildSteps.{key-child}

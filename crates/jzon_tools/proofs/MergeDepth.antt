@@ -1,8 +1,8 @@
 -- A merge makes no value deeper than both were.
-use Rattle.std.proofs.Common.{◌≡◌, ◌<◌, ◌≤◌, ℕ, zero, suc, List, [], Bool, true, false, ◌&&◌, if◌then◌else◌, Option, None, Some, refl, sym, ap, ◌∙◌, subst, arith, max}
+use Rattle.std.proofs.Common.{◌≡◌, ◌<◌, ◌≤◌, ℕ, zero, suc, List, Bool, true, false, ◌&&◌, if◌then◌else◌, Option, None, Some, refl, sym, ap, ◌∙◌, subst, arith, max}
 use Rattle.jzon.specs.PairList.{find, put, cut}
 use Rattle.jzon.specs.Readers.{entries, or_null, is_null}
-use Rattle.jzon.specs.Value.{Value, ValuePairs, null, boolean, text, number, array, object, no_pairs, pair, list_of_pairs, pairs_of, nest, most_nest_under}
+use Rattle.jzon.specs.Value.{Value, ValuePairs, null, boolean, text, number, array, object, no_pairs, pair, pairs_of, nest, most_nest_under}
 use Rattle.jzon.proofs.KeptByChanges.{nest-with_entry, nest-without_entry, nest-found}
 use Rattle.jzon.proofs.ValueLaws.{list_of_pairs-pairs_of, pairs_of-list_of_pairs}
 use Rattle.jzon_tools.specs.Merge.{merged, merged_pairs}

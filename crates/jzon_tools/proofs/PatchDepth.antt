@@ -1,18 +1,13 @@
 -- How deep a value nests after an operation of a patch.
-use Rattle.std.proofs.Common.{◌≡◌, ◌<◌, ◌≤◌, ◌+◌, ℕ, zero, suc, length, List, [], ◌∷◌, Bool, true, false, if◌then◌else◌}
-use Rattle.std.proofs.Common.{Option, None, Some, option_map, option_and_then, slice_set, refl, sym, ap, ◌∙◌, subst, arith}
-use Rattle.std.proofs.Common.{◌==◌, ◌++◌, cond, codes, slice_get}
+use Rattle.std.proofs.Common.{◌≡◌, ◌≤◌, ◌+◌, ℕ, List, [], ◌∷◌, Bool, true, false, if◌then◌else◌}
+use Rattle.std.proofs.Common.{Option, None, Some, option_map, option_and_then, refl, subst, arith}
+use Rattle.std.proofs.Common.{codes}
 use Rattle.std.proofs.lemmas.Option.{none-some, same_Some}
-use Rattle.std.proofs.lemmas.List.Sums.{sum_by-cons}
-use Rattle.std.specs.List.{AllByRecursion, insert, remove}
 use Rattle.std.specs.Option.{option_map_or}
 use Rattle.std.specs.Str.{bytes_eq}
-use Rattle.jzon.specs.PairList.{find, put, cut}
 use Rattle.jzon.specs.Same.{same}
-use Rattle.jzon.specs.Value.{Value, Values, ValuePairs, null, boolean, text, number, array, object, list_of_values, list_of_pairs, values_of, pairs_of, nest}
-use Rattle.jzon.proofs.KeptByChanges.{NestsBelow, nests, nest-with_entry, nest-without_entry, nest-without_item, nest-item, nest-found}
-use Rattle.jzon.proofs.ValueLaws.{values_of-list_of_values, pairs_of-list_of_pairs}
-use Rattle.jzon_pointer.specs.Pointer.{index_named, token_key, child_of, with_child, with_new, new_index, without, updated, updated_at, changed, inserted_at, removed_at, tokens_of, tokens_in, tokens_after, slashes}
+use Rattle.jzon.specs.Value.{Value, nest}
+use Rattle.jzon_pointer.specs.Pointer.{updated_at, removed_at, slashes}
 use Rattle.jzon_tools.specs.Patch.{value_of, entry_of, added_at, moved_at, is_below, tested_at, operand, op_of, operated, operated_by, text_at, depth_by, depth_in}
 use Rattle.jzon_tools.specs.declared.patch.Op.{Op}
 use Rattle.jzon_tools.specs.declared.patch.Op.TheVariants.{Add, Remove, Replace, Move, Copy, Test}

@@ -1,14 +1,12 @@
 -- How deep a value nests after a change at a pointer.
 use Rattle.std.proofs.Common.{◌≡◌, ◌<◌, ◌≤◌, ◌+◌, ℕ, zero, suc, length, List, [], ◌∷◌, Bool, true, false, if◌then◌else◌}
 use Rattle.std.proofs.Common.{Option, None, Some, option_map, option_and_then, slice_set, refl, sym, ap, ◌∙◌, subst, arith, max}
-use Rattle.std.proofs.Common.{◌==◌, ◌++◌, cond, codes, slice_get}
+use Rattle.std.proofs.Common.{◌==◌, ◌++◌, cond, slice_get}
 use Rattle.std.proofs.lemmas.Option.{none-some, same_Some}
 use Rattle.std.proofs.lemmas.List.Sums.{sum_by-cons}
 use Rattle.std.specs.List.{AllByRecursion, insert, remove}
 use Rattle.std.specs.Option.{option_map_or}
-use Rattle.std.specs.Str.{bytes_eq}
 use Rattle.jzon.specs.PairList.{find, put, cut}
-use Rattle.jzon.specs.Same.{same}
 use Rattle.jzon.specs.Value.{Value, Values, ValuePairs, null, boolean, text, number, array, object, list_of_values, list_of_pairs, values_of, pairs_of, nest}
 use Rattle.jzon.proofs.KeptByChanges.{NestsBelow, nests, nest-with_entry, nest-without_entry, nest-without_item, nest-item, nest-found}
 use Rattle.jzon.proofs.ValueLaws.{values_of-list_of_values, pairs_of-list_of_pairs}

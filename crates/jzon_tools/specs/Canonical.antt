@@ -8,7 +8,7 @@ use Rattle.jzon.specs.Decimal.{Decimal, nan, parts, is_nan}
 use Rattle.jzon.specs.Fault.{Parses}
 use Rattle.jzon.specs.Grammar.{Document}
 use Rattle.jzon.specs.Meaning.{meaning}
-use Rattle.jzon.specs.Reading.{Reading, strict_exact}
+use Rattle.jzon.specs.Reading.{strict_exact}
 use Rattle.jzon.specs.Lawful.{IsValue, HasNoNan}
 use Rattle.jzon.specs.Same.{same}
 use Rattle.jzon.specs.SortedStyle.{is_before}

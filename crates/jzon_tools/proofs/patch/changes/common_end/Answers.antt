@@ -1,4 +1,4 @@
-use Rattle.std.proofs.Common.{◌∙◌, ◌-◌, ◌+◌, ◌<◌, ◌≤◌, ℕ, length, map, sym, arith}
+use Rattle.std.proofs.Common.{◌∙◌, ◌-◌, ◌+◌, ◌<◌, length, sym, arith}
 use Rattle.jzon.specs.Same.{same}
 use Rattle.jzon.specs.View.{view}
 use Rattle.jzon_tools.proofs.DiffElements.{end-next}

@@ -1,4 +1,4 @@
-use Rattle.std.proofs.Common.{ap, map, List, ℕ, [], ◌∙◌, string_bytes, subst}
+use Rattle.std.proofs.Common.{ap, map, List, ℕ, [], string_bytes, subst}
 use Rattle.jzon.specs.Value.{Value}
 use Rattle.jzon.specs.View.{view}
 use Rattle.jzon.proofs.ValueLaws.{view-Array}

@@ -1,4 +1,4 @@
-use Rattle.std.proofs.Common.{◌≡◌, ◌≤◌, ◌+◌, ◌-◌, suc, List, ℕ, map, ◌++◌, ◌∷◌, [], None, Some, true, false, option_map, refl, sym, ap, ◌∙◌, subst, arith, length, string_bytes}
+use Rattle.std.proofs.Common.{◌≡◌, ◌≤◌, ◌+◌, ◌-◌, suc, List, ℕ, map, ◌∷◌, [], None, Some, refl, sym, ap, ◌∙◌, subst, arith, length, string_bytes}
 use Rattle.std.specs.List.{IsDistinct}
 use Rattle.std.proofs.lemmas.List.{length-map}
 use Rattle.std.specs.Option.{option_copied}
@@ -6,7 +6,6 @@ use Rattle.std.specs.Str.{bytes_eq}
 use Rattle.jzon.specs.Entries.{entries_of}
 use Rattle.jzon.specs.Measure.{size, largest, largest_under}
 use Rattle.jzon.specs.PairList.{find, keys_of}
-use Rattle.jzon.specs.Same.{same}
 use Rattle.jzon.specs.SameLaws.{same_at}
 use Rattle.jzon.specs.Value.{Value}
 use Rattle.jzon.specs.View.{view, viewed}

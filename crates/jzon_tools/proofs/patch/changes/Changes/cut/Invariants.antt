@@ -1,4 +1,4 @@
-use Rattle.std.proofs.Common.{◌≡◌, ◌≤◌, ℕ, length, map, string_bytes}
+use Rattle.std.proofs.Common.{◌≡◌, map, string_bytes}
 use Rattle.jzon.specs.View.{view}
 use Rattle.jzon_tools.specs.Diff.{AddsElements, operations_of}
 use Rattle.jzon_tools.proofs.patch.changes.Changes.cut.Given as goal
