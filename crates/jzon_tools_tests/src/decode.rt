@@ -393,8 +393,8 @@ fn reads_by_the_given_reading(rt: HostRuntime) -> Tested {
     Ok(())
 }
 
-/// A text that isn't read, and the kind and the message of its error as an `io::Error`. Of 80 bytes
-/// a long pointer takes what it needs.
+/// A text that isn't read, and the kind and the message of its error as an `io::Error`, whose
+/// 80 bytes end with dots if the message has more.
 const RAISED: &[(&str, As, ErrorKind, &str)] = rows! {
     ("", As::U8, ErrorKind::UnexpectedEof, "Unexpected end of JSON at (1:1)")
     ("x", As::U8, ErrorKind::InvalidData, "Unexpected character: x at (1:1)")
@@ -402,8 +402,8 @@ const RAISED: &[(&str, As, ErrorKind, &str)] = rows! {
     ("{}", As::Sample, ErrorKind::InvalidData, "/name: missing, expected a string")
     (r#"{"a":1}"#, As::Sample, ErrorKind::InvalidData, "/a: unknown key, expected name, small, cents, lists, price, a/b~c")
     (r#"{"0123456789012345678901234567890123456789":7}"#, As::Tree, ErrorKind::InvalidData, "/0123456789012345678901234567890123456789: expected an array, found 7")
-    (r#"{"0123456789012345678901234567890123456789012345678901":7}"#, As::Tree, ErrorKind::InvalidData, "/0123456789012345678901234567890123456789012345678901: expected an array, found ")
-    (r#"{"0123456789012345678901234567890123456789012345678901234567890123456789012345678901234567":7}"#, As::Tree, ErrorKind::InvalidData, "/0123456789012345678901234567890123456789012345678901234567890123456789012345678")
+    (r#"{"0123456789012345678901234567890123456789012345678901":7}"#, As::Tree, ErrorKind::InvalidData, "/0123456789012345678901234567890123456789012345678901: expected an array, fou...")
+    (r#"{"0123456789012345678901234567890123456789012345678901234567890123456789012345678901234567":7}"#, As::Tree, ErrorKind::InvalidData, "/0123456789012345678901234567890123456789012345678901234567890123456789012345...")
 };
 
 #[test]
