@@ -11,7 +11,6 @@ pub use Rattle.jzon_base.proofs.Entries.PairLaws
 pub use Rattle.jzon_base.proofs.Numbers.Powers
 pub use Rattle.jzon_tree.proofs.Laws.ValueLaws
 pub use Rattle.jzon_tree.proofs.Laws.KeptByChanges
-pub use Rattle.jzon_tree.proofs.Laws.KeptByConversions
 pub use Rattle.jzon_tree.proofs.Laws.Chains
 pub use Rattle.jzon_tree.proofs.Laws.InPlace
 pub use Rattle.jzon_tree.proofs.Laws.PlainWritings

@@ -11,7 +11,8 @@ ghost use Rattle.jzon.specs.Private.OpenContainers.{frames_around, frames_here, 
 ghost use Rattle.jzon.specs.Private.Read.{after_read, IsAfterValue, ReadsItems};
 ghost use Rattle.jzon.specs.Located.{IsLocated};
 ghost use Rattle.jzon.specs.Reading.{usual};
-ghost use Rattle.jzon_base.specs.Tokens.{end_array};
+ghost use Rattle.jzon_base.specs.Tokens.{begin_array, begin_object, end_array, quotation_mark};
+ghost use Rattle.jzon.specs.Private.Brackets.{closer, after_opener};
 
 use crate::container_kind::ContainerKind;
 use crate::cursor::Cursor;
@@ -100,20 +101,54 @@ fn read(alloc: Global, source: &str, reading: &Reading) -> stop::Result<JsonValu
     let mut cursor = Cursor::new(source, *reading);
     let first = cursor.peek();
     let Some(kind) = ContainerKind::opened_by(first) else {
-        let (source, start) = (cursor.source, cursor.index);
-        let exact = cursor.reading.exact_numbers();
-        let mut buffer = String::new(alloc);
-        let mut value = JsonValue::Null;
-        let end = put_primitive(exact, alloc, source, start, first, &mut buffer, &mut value)?;
-        cursor.go_to(end);
-        return expect_end(&cursor, value);
+        return read_primitive(alloc, &mut cursor, first);
     };
     if cursor.open_container(kind, 0)? {
         return expect_end(&cursor, kind.empty(alloc));
     }
-    let stacks = Stacks::new(alloc, reading.strict(), kind)?;
+    read_container(alloc, &cursor, kind)
+}
+
+/// Reads the rest of a text from its first token on, which is a primitive; `first` is its first
+/// byte. This and `read_container` are apart from `read`, so that a call clears only the locals
+/// that its text needs.
+#[inline(never)]
+fn read_primitive(alloc: Global, cursor: &mut Cursor<'_>, first: u8) -> stop::Result<JsonValue>
+    requires first { first ≡ next_byte cursor.old }
+    requires no_array { first ≢ begin_array }
+    requires no_object { first ≢ begin_object }
+    ensures memory { result ≡ Err Stop.Memory → first ≡ quotation_mark }
+    ensures outcome { Reads cursor.old.source.now result (left cursor.old (before no_frames)) }
+{
+    let (source, start) = (cursor.source, cursor.index);
+    let exact = cursor.reading.exact_numbers();
+    let mut buffer = String::new(alloc);
+    let mut value = JsonValue::Null;
+    let end = put_primitive(exact, alloc, source, start, first, &mut buffer, &mut value)?;
+    cursor.go_to(end);
+    expect_end(cursor, value)
+}
+
+/// Reads the rest of a text after the opening bracket of the outermost container, which isn't
+/// empty.
+#[inline(never)]
+fn read_container(
+    alloc: Global,
+    cursor: &Cursor<'_>,
+    kind: ContainerKind,
+) -> stop::Result<JsonValue>
+    requires room { 0 < cursor.now.reading.depth }
+    requires some { next_byte cursor.now ≢ closer kind }
+    ensures { Reads cursor.now.source.now result (left cursor.now (after_opener kind no_frames)) }
+{
+    let stacks = Stacks::new(alloc, cursor.reading.strict(), kind)?;
     let mut parser = Parser {
-        cursor,
+        // Field by field, because a copy of the whole, behind a reference, is taken for a move.
+        cursor: Cursor {
+            source: cursor.source,
+            index: cursor.index,
+            reading: cursor.reading,
+        },
         stacks,
         buffer: String::new(alloc),
     };
@@ -132,6 +167,7 @@ enum Next {
 }
 
 /// Returns the value of the text if the text ends at the cursor; else the stop is there.
+#[inline(always)]
 fn expect_end(cursor: &Cursor<'_>, value: JsonValue) -> stop::Result<JsonValue>
     ensures memory { result ≢ Err Stop.Memory }
     ensures outcome { Reads cursor.now.source.now result
@@ -155,7 +191,7 @@ struct Parser<'a> {
 
 impl<'a> Parser<'a> {
     /// Reads the rest of the text: all that the containers hold, and the end.
-    #[inline(never)]
+    #[inline(always)]
     fn read_to_end(&mut self) -> stop::Result<JsonValue>
         requires before { IsBeforeItem self.old.cursor self.old.stacks }
         requires strict { self.old.stacks.strict ≡ self.old.cursor.reading.strict }
@@ -166,10 +202,20 @@ impl<'a> Parser<'a> {
             if let Some(kind) = self.read_items()? {
                 self.stacks.open(kind)?;
             } else if self.end_containers()? {
-                let value = self.stacks.finish()?;
-                return expect_end(&self.cursor, value);
+                return self.finish();
             }
         }
+    }
+
+    /// Returns the value of the text, whose outermost container ended, if the text ends there too.
+    #[inline(never)]
+    fn finish(&mut self) -> stop::Result<JsonValue>
+        requires { IsAfterEnd self.old.cursor self.old.stacks true }
+        ensures { Reads self.old.cursor.source.now result
+            (left self.old.cursor (after_end self.old.stacks true)) }
+    {
+        let value = self.stacks.finish()?;
+        expect_end(&self.cursor, value)
     }
 
     /// Reads elements or entries of the innermost container: to its end, or to a container in it

@@ -36,7 +36,8 @@ const FIRST_ROOM: usize = 8;
 const SECOND_ROOM: usize = 21;
 
 /// Up to this many values of a nested container are always copied to a block of their own
-/// (`cut_values`).
+/// (`cut_values`), and up to this many of the outermost one keep a block with an unused part
+/// (`take_all`).
 const LONG: usize = 1024;
 
 /// An open container: its kind, and where its keys and values begin.
@@ -131,7 +132,8 @@ fn cut_values(stack: &mut Vec<JsonValue>, start: usize) -> Result<Vec<JsonValue>
 }
 
 /// Takes all that is on the stack, for the outermost container: in the stack's own block, unless it
-/// has outgrown the first room and more than half of it is unused.
+/// has outgrown the first room and more than half of it is unused. Of many the unused part of the
+/// block is given back; if the allocator refuses that, the block stays as it is.
 #[inline(always)]
 fn take_all<T>(alloc: Global, stack: &mut Vec<T>) -> Result<Vec<T>, AllocError>
     ensures items { OnOk result (stack.new.items ≡ []) }
@@ -139,6 +141,9 @@ fn take_all<T>(alloc: Global, stack: &mut Vec<T>) -> Result<Vec<T>, AllocError>
     ensures err { OnErr result (stack.new.items ≡ stack.old.items) }
 {
     if stack.capacity() / 2 <= stack.len().max(FIRST_ROOM / 2) {
+        if LONG < stack.len() {
+            stack.shrink_to_fit();
+        }
         return Ok(mem::replace(stack, Vec::new(alloc)));
     }
     stack.split_off(0)
@@ -459,7 +464,7 @@ impl Stacks {
     }
 
     /// The value of the outermost container, which ended. Afterwards the stacks are unspecified.
-    #[inline(never)]
+    #[inline(always)]
     pub(crate) fn finish(&mut self) -> Result<JsonValue, AllocError>
         requires even { HasAllValues self.old.innermost.kind self.old.innermost }
         requires outermost { self.old.around ≡ [] }

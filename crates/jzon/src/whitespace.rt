@@ -47,9 +47,43 @@ fn is_above_space(source: &str, index: usize) -> bool
 }
 
 /// How many bytes at the start are whitespace. Most whitespace is a newline and the indentation
-/// after it, so `LANES` bytes are compared at once.
+/// after it, so newlines and spaces are looked for first, apart from the loop.
 #[inline(never)]
 fn whitespace_length(bytes: &[u8], strict: bool) -> usize
+    ensures { result ≡ prefix_len (is_whitespace strict) bytes.now }
+{
+    if bytes.len() < LANES {
+        return whitespace_by_bytes(bytes, strict);
+    }
+    let others = unusual_in_lanes(bytes);
+    if others == 0 {
+        return LANES + rest_length(&bytes[LANES..], strict);
+    }
+    let end = others.trailing_zeros() as usize;
+    if bytes[end] > b' ' {
+        return end;
+    }
+    rest_length(bytes, strict)
+}
+
+/// Which of the first `LANES` bytes are other bytes than newlines and spaces, as `others_in_lanes`
+/// says it.
+#[inline(always)]
+fn unusual_in_lanes(bytes: &[u8]) -> u64
+    requires { LANES ≤ length bytes.now }
+    ensures none { result ≡ 0 → LANES ≤ prefix_len (is_whitespace true) bytes.now }
+    ensures within { ¬ (result ≡ 0) → trailing_zeros w64 result < LANES }
+    ensures some { ¬ (result ≡ 0) → trailing_zeros w64 result
+        ≤ prefix_len (is_whitespace true) bytes.now }
+{
+    let lanes = Simd::<u8, 16>::from_slice(bytes);
+    let usual = lanes.simd_eq(Simd::splat(b' ')) | lanes.simd_eq(Simd::splat(b'\n'));
+    0xFFFF - usual.to_bitmask()
+}
+
+/// `whitespace_length` of whitespace of any kind, `LANES` bytes at once.
+#[inline(never)]
+fn rest_length(bytes: &[u8], strict: bool) -> usize
     ensures { result ≡ prefix_len (is_whitespace strict) bytes.now }
 {
     let mut len = 0;
@@ -84,6 +118,7 @@ fn others_in_lanes(bytes: &[u8], start: usize) -> u64
     0xFFFF - (blanks | line_ends).to_bitmask()
 }
 
+/// `whitespace_length`, byte by byte.
 #[inline(always)]
 fn whitespace_by_bytes(bytes: &[u8], strict: bool) -> usize
     ensures { result ≡ prefix_len (is_whitespace strict) bytes.now }

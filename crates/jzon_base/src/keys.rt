@@ -308,6 +308,7 @@ impl Keys {
         self.index.clear();
     }
 
+    /// A copy, with an index of the same runs.
     pub fn clone(&self, alloc: Global) -> Result<Keys, AllocError>
         ensures { IfOk result (λ k. k ≡ self.now) }
     {

@@ -184,6 +184,7 @@ impl<V> Pairs<V> {
         self.len() == 0
     }
 
+    /// Iterates over the keys in order, from both ends.
     pub fn keys(&self) -> keys::Iter<'_>
         ensures { result ≡ keys_of self.now }
     {
@@ -193,6 +194,7 @@ impl<V> Pairs<V> {
         keys::Iter::empty()
     }
 
+    /// The values, in the order of their keys.
     pub fn values(&self) -> &[V]
         ensures { result.now ≡ values_of self.now }
     {
@@ -202,6 +204,7 @@ impl<V> Pairs<V> {
         &[]
     }
 
+    /// The position of the entry with this key.
     pub fn position(&self, name: &str) -> Option<usize>
         ensures { result ≡ position (λ k. bytes_eq k name.now) (keys_of self.now) }
     {

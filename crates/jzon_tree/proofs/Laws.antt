@@ -5,6 +5,5 @@ pub mod KeyOrder
 pub mod Unique
 pub mod ValueLaws
 pub mod KeptByChanges
-pub mod KeptByConversions
 pub mod InPlace
 pub mod PlainWritings

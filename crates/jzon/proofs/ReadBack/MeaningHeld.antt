@@ -13,7 +13,7 @@ use Rattle.jzon_base.proofs.Entries.PutEach.{IsDistinct-put_each}
 use Rattle.jzon_tree.specs.Value.{Value, object, Values, pairs_of, nest, most_nest, most_nest_under}
 use Rattle.jzon_tree.specs.Text.{compact}
 use Rattle.jzon_tree.specs.Lawful.{InRange, IsValue, AreValues, ArePairs, HasNoNan, HaveNoNan, PairsHaveNoNan}
-use Rattle.jzon_tree.proofs.Laws.KeptByConversions.{IsValue-text}
+use Rattle.jzon_tree.proofs.Laws.ValueLaws.{IsValue-text}
 use Rattle.jzon_tree.proofs.Values.Views.{list_of_pairs-pairs_of}
 use Rattle.jzon.specs.Reading.{Reading}
 use Rattle.jzon.specs.Grammar.{Numeral, Item, simple, single, double, Node, Elements, no_elements, element, Members}

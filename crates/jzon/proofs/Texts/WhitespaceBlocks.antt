@@ -1,13 +1,14 @@
 -- Whitespace of 16 bytes at once. Letters: v the bytes of a block, d all bytes, i the offset of the block.
-use Rattle.jzon_base.proofs.Common.{◌≡◌, ℕ, suc, ◌+◌, ◌-◌, ◌*◌, ◌%◌, ◌^◌, ◌≤◌, ◌<◌, eqb, Bool, true, false, not, cond}
+use Rattle.jzon_base.proofs.Common.{◌≡◌, ℕ, zero, suc, ◌+◌, ◌-◌, ◌*◌, ◌%◌, ◌^◌, ◌≤◌, ◌<◌, eqb, Bool, true, false, not, cond}
 use Rattle.jzon_base.proofs.Common.{List, [], ◌∷◌, length, take, drop, get_or, map, replicate, bit_or, Fits, w8, refl}
 use Rattle.jzon_base.proofs.Common.{sym, ap, ◌∙◌, arith, nat_tests, prefix_len, length-drop, length-map, pow-suc}
 use Rattle.jzon_base.proofs.Common.{cases_lt, inl, inr, take_rest, chunk-fits, length-chunk, map-map, mask_l-mod}
 use Rattle.jzon_base.proofs.Common.{zip2_splat}
+use Rattle.std.proofs.lemmas.Bool.{agree_below_at}
 use Rattle.std.proofs.lemmas.List.Sums.{prefix_len_passes}
 use Rattle.std.proofs.lemmas.Simd.{leading_from_mask_l, trailing_mask_l, zip2_of_maps}
 use lib.Count.{count_trailing_zeros}
-use lib.Lanes.{chunk, mask_l, top, zip2}
+use lib.Lanes.{Each1, chunk, mask_l, top, zip2}
 use Rattle.jzon_tree.specs.Writing.{is_whitespace}
 use Rattle.jzon_base.proofs.Strings.PlainBlocks.{past, prefix_ends, prefix_passes, same_run}
 
@@ -121,6 +122,11 @@ pub goes_on : (s : Bool) (d : List ℕ) (i n : ℕ) → i ≤ prefix_len (is_whi
     → n ≤ prefix_len (is_whitespace true) (drop i d) → i + n ≤ prefix_len (is_whitespace s) d
 goes_on s d i n before more = omega (arith, past (is_whitespace s) d i before, grows s (drop i d))
 
+-- a run at the start
+pub in_any : (s : Bool) (d : List ℕ) (n : ℕ) → n ≤ prefix_len (is_whitespace true) d
+    → n ≤ prefix_len (is_whitespace s) d
+in_any s d n more = omega (arith, more, grows s d)
+
 above_is_none : (s : Bool) (c : ℕ) → 32 < c → is_whitespace s c ≡ true → ⊥
 above_is_none true c lt h = grind (arith, nat_tests)
 above_is_none false c lt h = grind (arith, nat_tests)
@@ -140,3 +146,81 @@ pub ends_after : (s : Bool) (d : List ℕ) (i r : ℕ) → i ≤ prefix_len (is_
     → r ≡ prefix_len (is_whitespace s) (take (length d - i) (drop i d)) → i + r ≡ prefix_len (is_whitespace s) d
 ends_after s d i r before counted =
     omega (arith, counted ∙ ap (prefix_len (is_whitespace s)) (take_rest d i), past (is_whitespace s) d i before)
+
+-- ---- newlines and spaces alone
+
+abbrev usual : ℕ → ℕ
+usual x = bit_or (equal x 32) (equal x 10)
+
+abbrev unusual : ℕ → Bool
+unusual x = not (top 7 (usual x))
+
+abbrev pub usual_mask : List ℕ → ℕ
+usual_mask v =
+    mask_l (map (top 7) (zip2 bit_or (zip2 equal v (replicate 16 32)) (zip2 equal v (replicate 16 10)))) % 2 ^ 64
+
+usual_mask_is : (v : List ℕ) → length v ≡ 16 → usual_mask v ≡ mask_l (map (λ x. top 7 (usual x)) v)
+usual_mask_is v long =
+    let lanes = zip2_of_maps bit_or _ _ v (zip2_splat equal v 16 32 long) (zip2_splat equal v 16 10 long) in
+    ap (λ l. mask_l l % 2 ^ 64) (ap (map (top 7)) lanes ∙ map-map (top 7) usual v)
+    ∙ mask_l-mod (map (λ x. top 7 (usual x)) v) 64 (omega (arith, length-map v (λ x. top 7 (usual x)), long))
+
+unusual_are : (v : List ℕ) → length v ≡ 16
+    → (usual_mask v ≤ 65535) × (65535 - usual_mask v ≡ mask_l (map unusual v))
+unusual_are v long =
+    let both = others (λ x. top 7 (usual x)) v ∙ ap (λ (n : ℕ). 2 ^ n) long in
+    let is = usual_mask_is v long in
+    (omega (arith, both, is), omega (arith, both, is))
+
+implied : (a b : Bool) → cond a true b ≡ true → not a ≡ true → b ≡ true
+implied true b e h = absurd (let no : false ≡ true = h in cc)
+implied false b e h = e
+
+usual_run : (v : List ℕ) → Each1 (Fits w8) v
+    → prefix_len (λ x. not (unusual x)) v ≤ prefix_len (is_whitespace true) v
+usual_run [] fits = omega arith
+usual_run (x ∷ xs) fits =
+    let all = agree_below_at (λ y. cond (unusual y) true (is_whitespace true y)) (λ y. true) 256 x refl fits.0.fits in
+    grows-at (not (unusual x)) (is_whitespace true x) _ _ (implied (unusual x) (is_whitespace true x) all)
+    (usual_run xs fits.1)
+
+run_in_part : (p : ℕ → Bool) (n : ℕ) (d : List ℕ) → prefix_len p (take n d) ≤ prefix_len p d
+run_in_part p zero d = omega arith
+run_in_part p (suc n) [] = omega arith
+run_in_part p (suc n) (x ∷ xs) = grows-at (p x) (p x) _ _ (λ h. h) (run_in_part p n xs)
+
+usual_part : (d : List ℕ) → ((k : ℕ) → Fits w8 (get_or d k 0))
+    → prefix_len (λ x. not (unusual x)) (chunk 0 16 d) ≤ prefix_len (is_whitespace true) d
+usual_part d fits =
+    let run = usual_run (chunk 0 16 d) (chunk-fits w8 0 16 d fits) in
+    omega (arith, run, run_in_part (is_whitespace true) 16 d)
+
+pub usual_fits : (d : List ℕ) → 16 ≤ length d → usual_mask (chunk 0 16 d) ≤ 65535
+usual_fits d room = (unusual_are (chunk 0 16 d) (length-chunk 0 16 d room)).0
+
+pub usual_none : (d : List ℕ) → 16 ≤ length d → ((k : ℕ) → Fits w8 (get_or d k 0))
+    → 65535 - usual_mask (chunk 0 16 d) ≡ 0 → 16 ≤ prefix_len (is_whitespace true) d
+usual_none d room fits none =
+    let long = length-chunk 0 16 d room in
+    let all = leading_from_mask_l unusual (chunk 0 16 d) (sym (unusual_are (chunk 0 16 d) long).1 ∙ none) in
+    omega (arith, all, long, usual_part d fits)
+
+usual_zeros : (d : List ℕ) → 16 ≤ length d → (65535 - usual_mask (chunk 0 16 d) ≡ 0 → ⊥)
+    → (count_trailing_zeros 64 (65535 - usual_mask (chunk 0 16 d)) ≡ prefix_len (λ x. not (unusual x)) (chunk 0 16 d))
+    × (prefix_len (λ x. not (unusual x)) (chunk 0 16 d) < 16)
+usual_zeros d room some =
+    let long = length-chunk 0 16 d room in
+    let mask = (unusual_are (chunk 0 16 d) long).1 in
+    let one : 0 < mask_l (map unusual (chunk 0 16 d)) = omega (arith, some, mask) in (
+      ap (count_trailing_zeros 64) mask ∙ trailing_mask_l unusual 64 (chunk 0 16 d) (omega (arith, long)) one,
+      omega (arith, first unusual (chunk 0 16 d) one, long),
+    )
+
+pub usual_within : (d : List ℕ) → 16 ≤ length d → (65535 - usual_mask (chunk 0 16 d) ≡ 0 → ⊥)
+    → count_trailing_zeros 64 (65535 - usual_mask (chunk 0 16 d)) < 16
+usual_within d room some = let zeros = usual_zeros d room some in omega (arith, zeros.0, zeros.1)
+
+pub usual_some : (d : List ℕ) → 16 ≤ length d → ((k : ℕ) → Fits w8 (get_or d k 0))
+    → (65535 - usual_mask (chunk 0 16 d) ≡ 0 → ⊥)
+    → count_trailing_zeros 64 (65535 - usual_mask (chunk 0 16 d)) ≤ prefix_len (is_whitespace true) d
+usual_some d room fits some = omega (arith, (usual_zeros d room some).0, usual_part d fits)

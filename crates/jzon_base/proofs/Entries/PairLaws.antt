@@ -186,6 +186,3 @@ module _ {V : Type 0} where
 
   pub distinct-put_each : (ps : List (List ℕ × V)) → AllPairs (λ i j. i ≢ j) (keys_of (put_each ps))
   distinct-put_each ps = AllPairs-from_IsDistinct bytes_eq-Decides (keys_of (put_each ps)) (IsDistinct-put_each ps)
-
-pub ruleset pair_laws =
-    (find-put_same, find-put_other, find-cut_same, find-cut_other, distinct-put, distinct-cut, distinct-put_each)

@@ -1,24 +1,20 @@
--- What the changers of values preserve: that a program can hold the value, that it contains no NaN, and its nesting
--- depth.
+-- What the changers of values preserve: a law for each, of each property that goes inside, and three such properties:
+-- that a program can hold the value, that it contains no NaN, and a bound of its nesting depth.
 use Rattle.jzon_base.proofs.Common.{◌≡◌, ◌≢◌, ℕ, zero, suc, ◌<◌, ◌≤◌, List, [], ◌∷◌, ◌++◌, remove, slice_get, Some}
-use Rattle.jzon_base.proofs.Common.{refl, subst, arith, ⊤, AllPairs, IsUtf8, AllByRecursion, none-some, same_Some}
+use Rattle.jzon_base.proofs.Common.{subst, arith, ⊤, AllPairs, IsUtf8, AllByRecursion, none-some, same_Some}
+use Rattle.std.proofs.SliceLists.{all_by_recursion_push}
 use Rattle.jzon_base.specs.PairList.{find, put, cut, keys_of}
 use Rattle.jzon_base.proofs.Entries.PairLaws.{All-put, All-cut, All-found, distinct-put, distinct-cut}
-use Rattle.jzon_tree.specs.Changers.{without_text, with_item, without_item, with_entry, without_entry, cleared}
-use Rattle.jzon_tree.specs.Lawful.{IsText, IsValue, AreValues, ArePairs, HasNoNan, HaveNoNan, PairsHaveNoNan}
+use Rattle.jzon_tree.specs.Changers.{with_item, without_item, with_entry, without_entry}
+use Rattle.jzon_tree.specs.Lawful.{IsValue, AreValues, ArePairs, HasNoNan, HaveNoNan, PairsHaveNoNan}
 use Rattle.jzon_tree.specs.Readers.{items, entries}
-use Rattle.jzon_tree.specs.Value.{Value, null, text, array, object, Kind, short, long, Values, no_values, value, ValuePairs}
-use Rattle.jzon_tree.specs.Value.{no_pairs, pair, values_of, pairs_of, list_of_values, list_of_pairs, nest, most_nest}
-use Rattle.jzon_tree.specs.Value.{most_nest_under}
+use Rattle.jzon_tree.specs.Value.{Value, array, object, Values, no_values, value, ValuePairs, no_pairs, pair, values_of}
+use Rattle.jzon_tree.specs.Value.{pairs_of, list_of_values, list_of_pairs, nest, most_nest, most_nest_under}
 use Rattle.jzon_tree.proofs.Values.Views.{list_of_pairs-pairs_of}
 
 -- ---- lists
 
 module _ {X : Type 0} (P : X → Type 0) where
-  All-push : (xs : List X) (x : X) → AllByRecursion P xs → P x → AllByRecursion P (xs ++ x ∷ [])
-  All-push [] x all one = (one, tt)
-  All-push (y ∷ ys) x all one = (all.0, All-push ys x all.1 one)
-
   All-remove : (xs : List X) (i : ℕ) → AllByRecursion P xs → AllByRecursion P (remove xs i)
   All-remove [] zero all = tt
   All-remove [] (suc i) all = tt
@@ -36,58 +32,46 @@ module _ {X : Type 0} (P : X → Type 0) where
 -- P holds of an array if Q holds of its elements, and of an object if K holds of its keys, Q of its values, and D of
 -- the list of its keys.
 pub record GoesInside (P Q : Value → Type 0) (K : List ℕ → Type 0) (D : List (List ℕ) → Type 0) : Type 0 where
-  pub null : P null
-  pub empty_text : (k : Kind) (s : List ℕ) → P (text k s) → P (text k [])
   pub array-from : (vs : List Value) → AllByRecursion Q vs → P (array (values_of vs))
   pub array-to : (vs : Values) → P (array vs) → AllByRecursion Q (list_of_values vs)
   pub object-from : (ps : List (List ℕ × Value)) → AllByRecursion (λ p. K p.0 × Q p.1) ps → D (keys_of ps)
       → P (object (pairs_of ps))
   pub object-to : (ps : ValuePairs) → P (object ps)
       → AllByRecursion (λ p. K p.0 × Q p.1) (list_of_pairs ps) × D (keys_of (list_of_pairs ps))
-  pub none : D []
   pub put : (k : List ℕ) (v : Value) (ps : List (List ℕ × Value)) → D (keys_of ps) → D (keys_of (put k v ps))
   pub cut : (k : List ℕ) (ps : List (List ℕ × Value)) → D (keys_of ps) → D (keys_of (cut k ps))
 
 module _ {P Q : Value → Type 0} {K : List ℕ → Type 0} {D : List (List ℕ) → Type 0} (inside : GoesInside P Q K D) where
-  keeps_with_item : (v w : Value) → Q v → P w → P (with_item v w)
+  pub keeps_with_item : (v w : Value) → Q v → P w → P (with_item v w)
   keeps_with_item v (array vs) one all =
-      inside.array-from (list_of_values vs ++ v ∷ []) (All-push Q (list_of_values vs) v (inside.array-to vs all) one)
+      inside.array-from (list_of_values vs ++ v ∷ [])
+      (all_by_recursion_push Q (list_of_values vs) v (inside.array-to vs all) one)
   keeps_with_item v _ one all = all
 
-  keeps_without_item : (i : ℕ) (w : Value) → P w → P (without_item i w)
+  pub keeps_without_item : (i : ℕ) (w : Value) → P w → P (without_item i w)
   keeps_without_item i (array vs) all =
       inside.array-from (remove (list_of_values vs) i) (All-remove Q (list_of_values vs) i (inside.array-to vs all))
   keeps_without_item i _ all = all
 
-  keeps_with_entry : (k : List ℕ) (v w : Value) → K k → Q v → P w → P (with_entry k v w)
+  pub keeps_with_entry : (k : List ℕ) (v w : Value) → K k → Q v → P w → P (with_entry k v w)
   keeps_with_entry k v (object ps) key one all =
       let held = inside.object-to ps all in
       inside.object-from (put k v (list_of_pairs ps))
       (All-put (λ p. K p.0 × Q p.1) k v (list_of_pairs ps) (key, one) held.0) (inside.put k v (list_of_pairs ps) held.1)
   keeps_with_entry k v _ key one all = all
 
-  keeps_without_entry : (k : List ℕ) (w : Value) → P w → P (without_entry k w)
+  pub keeps_without_entry : (k : List ℕ) (w : Value) → P w → P (without_entry k w)
   keeps_without_entry k (object ps) all =
       let held = inside.object-to ps all in
       inside.object-from (cut k (list_of_pairs ps)) (All-cut (λ p. K p.0 × Q p.1) k (list_of_pairs ps) held.0)
       (inside.cut k (list_of_pairs ps) held.1)
   keeps_without_entry k _ all = all
 
-  keeps_cleared : (w : Value) → P w → P (cleared w)
-  keeps_cleared (text k s) all = inside.empty_text k s all
-  keeps_cleared (array vs) all = inside.array-from [] tt
-  keeps_cleared (object ps) all = inside.object-from [] tt inside.none
-  keeps_cleared _ all = inside.null
-
-  keeps_without_text : (w : Value) → P w → P (without_text w)
-  keeps_without_text (text k s) all = inside.null
-  keeps_without_text _ all = all
-
-  keeps_item : (i : ℕ) (v w : Value) → P w → slice_get (items w) i ≡ Some v → Q v
+  pub keeps_item : (i : ℕ) (v w : Value) → P w → slice_get (items w) i ≡ Some v → Q v
   keeps_item i v (array vs) all got = All-slice_get Q (list_of_values vs) i v (inside.array-to vs all) got
   keeps_item i v _ all got = All-slice_get Q [] i v tt got
 
-  keeps_found : (k : List ℕ) (v w : Value) → P w → find k (entries w) ≡ Some v → Q v
+  pub keeps_found : (k : List ℕ) (v w : Value) → P w → find k (entries w) ≡ Some v → Q v
   keeps_found k v (object ps) all found =
       (All-found (λ p. K p.0 × Q p.1) k v (list_of_pairs ps) (inside.object-to ps all).0 found).1
   keeps_found k v _ all found = absurd (none-some v found)
@@ -96,10 +80,6 @@ module _ {P Q : Value → Type 0} {K : List ℕ → Type 0} {D : List (List ℕ)
 
 abbrev pub AreDistinct : List (List ℕ) → Type 0
 AreDistinct ks = AllPairs (λ j k. j ≢ k) ks
-
-empty_text : (k : Kind) (s : List ℕ) → IsText k s → IsText k []
-empty_text short s h = (([], (refl, refl)), omega arith)
-empty_text long s h = ([], (refl, refl))
 
 values-from : (vs : List Value) → AllByRecursion IsValue vs → AreValues (values_of vs)
 values-from [] all = tt
@@ -124,13 +104,10 @@ object_held ps all distinct = (pairs-from ps all, rw (list_of_pairs-pairs_of ps)
 
 pub held : GoesInside IsValue IsValue IsUtf8 AreDistinct
 held = record {
-  null = tt;
-  empty_text = empty_text;
   array-from = values-from;
   array-to = values-to;
   object-from = object_held;
   object-to = λ ps all. (pairs-to ps all.0, all.1);
-  none = λ i j d below within. absurd (omega arith);
   put = distinct-put;
   cut = distinct-cut;
 }
@@ -156,13 +133,10 @@ number_pairs-to (pair k v ps) all = ((tt, all.0), number_pairs-to ps all.1)
 
 pub no_nan : GoesInside HasNoNan HasNoNan (λ k. ⊤) (λ ks. ⊤)
 no_nan = record {
-  null = tt;
-  empty_text = λ k s h. tt;
   array-from = number_values-from;
   array-to = number_values-to;
   object-from = λ ps all distinct. number_pairs-from ps all;
   object-to = λ ps all. (number_pairs-to ps all, tt);
-  none = tt;
   put = λ k v ps h. tt;
   cut = λ k ps h. tt;
 }
@@ -213,100 +187,35 @@ nest_object-to h (pair k v ps) most = each_under-below h (pair k v ps) most
 
 pub nests : (h : ℕ) → GoesInside (NestsWithin h) (NestsBelow h) (λ k. ⊤) (λ ks. ⊤)
 nests h = record {
-  null = omega arith;
-  empty_text = λ k s all. all;
   array-from = nest_array-from h;
   array-to = nest_array-to h;
   object-from = λ ps all distinct. nest_object-from h ps all;
   object-to = λ ps all. (nest_object-to h ps all, tt);
-  none = tt;
   put = λ k v ps all. tt;
   cut = λ k ps all. tt;
 }
 
--- ---- what each change preserves
+-- ---- what a value's parts have
 
 -- the keys of a value that a program can hold
 pub distinct-entries : (v : Value) → IsValue v → AllPairs (λ j k. j ≢ k) (keys_of (entries v))
 distinct-entries (object ps) h = h.1
-distinct-entries _ h = held.none
-
-pub IsValue-with_item : (v w : Value) → IsValue v → IsValue w → IsValue (with_item v w)
-IsValue-with_item = keeps_with_item held
-
-pub IsValue-without_item : (i : ℕ) (w : Value) → IsValue w → IsValue (without_item i w)
-IsValue-without_item = keeps_without_item held
-
-pub IsValue-with_entry : (k : List ℕ) (v w : Value) → IsUtf8 k → IsValue v → IsValue w → IsValue (with_entry k v w)
-IsValue-with_entry = keeps_with_entry held
-
-pub IsValue-without_entry : (k : List ℕ) (w : Value) → IsValue w → IsValue (without_entry k w)
-IsValue-without_entry = keeps_without_entry held
-
-pub IsValue-cleared : (w : Value) → IsValue w → IsValue (cleared w)
-IsValue-cleared = keeps_cleared held
-
-pub IsValue-without_text : (w : Value) → IsValue w → IsValue (without_text w)
-IsValue-without_text = keeps_without_text held
-
-pub IsValue-item : (i : ℕ) (v w : Value) → IsValue w → slice_get (items w) i ≡ Some v → IsValue v
-IsValue-item = keeps_item held
+distinct-entries _ h = λ i j d below within. absurd (omega arith)
 
 pub IsValue-found : (k : List ℕ) (v w : Value) → IsValue w → find k (entries w) ≡ Some v → IsValue v
 IsValue-found = keeps_found held
 
-pub HasNoNan-with_item : (v w : Value) → HasNoNan v → HasNoNan w → HasNoNan (with_item v w)
-HasNoNan-with_item = keeps_with_item no_nan
-
-pub HasNoNan-without_item : (i : ℕ) (w : Value) → HasNoNan w → HasNoNan (without_item i w)
-HasNoNan-without_item = keeps_without_item no_nan
-
-pub HasNoNan-with_entry : (k : List ℕ) (v w : Value) → HasNoNan v → HasNoNan w → HasNoNan (with_entry k v w)
-HasNoNan-with_entry k v w = keeps_with_entry no_nan k v w tt
-
-pub HasNoNan-without_entry : (k : List ℕ) (w : Value) → HasNoNan w → HasNoNan (without_entry k w)
-HasNoNan-without_entry = keeps_without_entry no_nan
-
-pub HasNoNan-cleared : (w : Value) → HasNoNan w → HasNoNan (cleared w)
-HasNoNan-cleared = keeps_cleared no_nan
-
-pub HasNoNan-without_text : (w : Value) → HasNoNan w → HasNoNan (without_text w)
-HasNoNan-without_text = keeps_without_text no_nan
-
-pub HasNoNan-item : (i : ℕ) (v w : Value) → HasNoNan w → slice_get (items w) i ≡ Some v → HasNoNan v
-HasNoNan-item = keeps_item no_nan
-
-pub HasNoNan-found : (k : List ℕ) (v w : Value) → HasNoNan w → find k (entries w) ≡ Some v → HasNoNan v
-HasNoNan-found = keeps_found no_nan
-
-pub nest-with_item : (h : ℕ) (v w : Value) → nest v < h → nest w ≤ h → nest (with_item v w) ≤ h
-nest-with_item h = keeps_with_item (nests h)
+pub nest-with_entry : (h : ℕ) (k : List ℕ) (v w : Value) → nest v < h → nest w ≤ h → nest (with_entry k v w) ≤ h
+nest-with_entry h k v w = keeps_with_entry (nests h) k v w tt
 
 pub nest-without_item : (h i : ℕ) (w : Value) → nest w ≤ h → nest (without_item i w) ≤ h
 nest-without_item h = keeps_without_item (nests h)
 
-pub nest-with_entry : (h : ℕ) (k : List ℕ) (v w : Value) → nest v < h → nest w ≤ h → nest (with_entry k v w) ≤ h
-nest-with_entry h k v w = keeps_with_entry (nests h) k v w tt
-
 pub nest-without_entry : (h : ℕ) (k : List ℕ) (w : Value) → nest w ≤ h → nest (without_entry k w) ≤ h
 nest-without_entry h = keeps_without_entry (nests h)
-
-pub nest-cleared : (h : ℕ) (w : Value) → nest w ≤ h → nest (cleared w) ≤ h
-nest-cleared h = keeps_cleared (nests h)
-
-pub nest-without_text : (h : ℕ) (w : Value) → nest w ≤ h → nest (without_text w) ≤ h
-nest-without_text h = keeps_without_text (nests h)
 
 pub nest-item : (i : ℕ) (v w : Value) → slice_get (items w) i ≡ Some v → nest v < nest w
 nest-item i v w = keeps_item (nests (nest w)) i v w (omega arith)
 
 pub nest-found : (k : List ℕ) (v w : Value) → find k (entries w) ≡ Some v → nest v < nest w
 nest-found k v w = keeps_found (nests (nest w)) k v w (omega arith)
-
-pub ruleset keeps_value =
-    (IsValue-with_item, IsValue-without_item, IsValue-with_entry, IsValue-without_entry, IsValue-cleared)
-
-pub ruleset keeps_no_nan =
-    (HasNoNan-with_item, HasNoNan-without_item, HasNoNan-with_entry, HasNoNan-without_entry, HasNoNan-cleared)
-
-pub ruleset keeps_nest = (nest-with_item, nest-without_item, nest-with_entry, nest-without_entry, nest-cleared)

@@ -6,15 +6,17 @@ pub use Rattle.jzon_tree.proofs.Printing.OrderedEntries.{keys-viewed}
 pub use Rattle.jzon_tree.proofs.Values.PartViews.{list_of_values-values_of, items-Array, entries-Object, count-Array, count-Object}
 use Rattle.jzon_base.proofs.Common.{◌≡◌, ◌≢◌, ℕ, zero, suc, List, [], ◌∷◌, ◌++◌, map, remove, Bool, true, false, cond}
 use Rattle.jzon_base.proofs.Common.{Some, None, option_map, unwrap_or, refl, sym, ap, ◌∙◌, subst, rules, string_bytes}
-use Rattle.jzon_base.proofs.Common.{String, Global, AllPairs, bytes_eq, none-some}
+use Rattle.jzon_base.proofs.Common.{String, Global, AllPairs, bytes_eq, none-some, nat_le, length, leb-true, IsUtf8}
+use Rattle.jzon_base.proofs.Common.{if◌then◌else◌}
 use Rattle.jzon_base.specs.Decimal.{Decimal}
 use Rattle.jzon_base.specs.PairList.{find, put, cut, keys_of}
 use Rattle.jzon_base.proofs.Entries.PairLaws.{find-put_same, find-put_other, find-cut_same, find-cut_other}
 use Rattle.jzon_tree.specs.Changers.{with_item, without_item, with_entry, without_entry}
-use Rattle.jzon_tree.specs.Entries.{entries_of, with_entries}
+use Rattle.jzon_tree.specs.Entries.{entries_of}
+use Rattle.jzon_tree.specs.Lawful.{IsText, IsValue}
 use Rattle.jzon_tree.specs.Lent.{object_in, entries_in, items_in}
 use Rattle.jzon_tree.specs.Readers.{items, entries, is_array, is_object, object_of, array_of}
-use Rattle.jzon_tree.specs.Value.{Value, null, text, number, array, object, short, long, list_of_values, list_of_pairs}
+use Rattle.jzon_tree.specs.Value.{Value, null, text, number, array, object, short, long, list_of_values, list_of_pairs, kind_of}
 use Rattle.jzon_tree.specs.Value.{Values, ValuePairs, no_values, value, no_pairs, pair, values_of, pairs_of}
 use Rattle.jzon_tree.specs.View.{view, viewed, view_object}
 use Rattle.jzon_tree.specs.declared.object.Object.{Object}
@@ -32,6 +34,13 @@ view-String s = search (rules, the_lemmas)
 
 pub view-Number : (n : Decimal) → view (Number n) ≡ number n
 view-Number n = search (rules, the_lemmas)
+
+short_text : (b : Bool) (s : List ℕ) → nat_le (length s) 30 ≡ b → IsUtf8 s → IsText (if b then short else long) s
+short_text true s e u = (u, leb-true (length s) 30 e)
+short_text false s e u = u
+
+pub IsValue-text : (s : List ℕ) → IsUtf8 s → IsValue (text (kind_of s) s)
+IsValue-text s = short_text (nat_le (length s) 30) s refl
 
 -- what holds of each kind of `JsonValue` holds of every one
 pub by_kind : (P : JsonValue → Type 0) → ((l : JsonValue-F JsonValue Object) → P (roll-JsonValue l)) → (v : JsonValue)
@@ -58,12 +67,6 @@ pub find-view_object : (k : List ℕ) (o : Object)
     → find k (entries (view_object o)) ≡ option_map view (find k (entries_of o))
 find-view_object k o =
     ap (find k) (list_of_pairs-pairs_of (viewed (entries_of o))) ∙ sym (find-viewed k (entries_of o))
-
-pub view_object-put : (k : List ℕ) (v : JsonValue) (o : Object)
-    → view_object (with_entries (put k v (entries_of o))) ≡ with_entry k (view v) (view_object o)
-view_object-put k v o =
-    ap (λ qs. object (pairs_of qs))
-    (viewed-put k v (entries_of o) ∙ ap (put k (view v)) (sym (list_of_pairs-pairs_of (viewed (entries_of o)))))
 
 rolled_items : (l : JsonValue-F JsonValue Object)
     → items (view (roll-JsonValue l)) ≡ map view (unwrap_or (items_in (roll-JsonValue l)) [])
@@ -182,12 +185,6 @@ rolled-no_array _ h = search (rules, the_lemmas)
 pub is_array-no_items_in : (v : JsonValue) → items_in v ≡ None → is_array (view v) ≡ false
 is_array-no_items_in v = by_kind (λ w. items_in w ≡ None → is_array (view w) ≡ false) rolled-no_array v
 
-pub entries-no_object_in : (v : JsonValue) → object_in v ≡ None → entries (view v) ≡ []
-entries-no_object_in v none = entries-other (view v) (is_object-no_object_in v none)
-
-pub items-no_items_in : (v : JsonValue) → items_in v ≡ None → items (view v) ≡ []
-items-no_items_in v none = items-other (view v) (is_array-no_items_in v none)
-
 -- the same, from what `as_object` and `as_array` return
 pub is_object-no_object_of : (v : Value) → object_of v ≡ None → is_object v ≡ false
 is_object-no_object_of (object ps) h = absurd (cc)
@@ -196,8 +193,3 @@ is_object-no_object_of _ h = refl
 pub is_array-no_array_of : (v : Value) → array_of v ≡ None → is_array v ≡ false
 is_array-no_array_of (array vs) h = absurd (cc)
 is_array-no_array_of _ h = refl
-
-pub ruleset changed_parts = (entries-with_entry, entries-without_entry, items-with_item, items-without_item)
-
-pub ruleset found_after =
-    (find-with_entry_same, find-with_entry_other, find-without_entry_same, find-without_entry_other)

@@ -1,6 +1,7 @@
 //! A buffer of fixed size.
 
 ghost use Rattle.std.specs.Prelude.{◌≡◌, ◌+◌, ◌≤◌, ◌++◌, [], false, length, IsTrue};
+ghost use Rattle.jzon_tree.specs.declared.codegen.buffer.TheConstants.{BUFFER_LEN};
 
 use crate::codegen::pieces::Piece;
 
@@ -13,8 +14,8 @@ const BUFFER_LEN: usize = 1024;
 pub struct Buffer {
     pub(super) bytes: [u8; BUFFER_LEN],
     pub(super) len: usize,
-    ghost size: { length bytes ≡ 1024 },
-    ghost within: { len ≤ 1024 },
+    ghost size: { length bytes ≡ BUFFER_LEN },
+    ghost within: { len ≤ BUFFER_LEN },
 }
 
 impl Buffer {

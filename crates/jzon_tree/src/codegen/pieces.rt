@@ -4,8 +4,11 @@ ghost use Rattle.std.specs.Prelude.{◌≡◌, ◌+◌, ◌<◌, ◌≤◌, ◌+
 ghost use Rattle.jzon_base.specs.Decimal.{parts_of};
 ghost use Rattle.jzon_base.specs.NumberText.{IsCommon, written_text};
 ghost use Rattle.jzon_base.specs.Tokens.{minus_sign, quotation_mark};
+ghost use Rattle.jzon_base.specs.declared.util.print_dec.TheConstants.{DIGITS_ROOM};
 ghost use Rattle.jzon_tree.specs.Text.{quoted};
 ghost use Rattle.jzon_tree.specs.Writing.{colon_text};
+ghost use Rattle.jzon_tree.specs.declared.codegen.layout.TheConstants.{LINE_ROOM};
+ghost use Rattle.jzon_tree.specs.declared.codegen.strings.TheConstants.{BY_ENDS_MAX_LEN, BY_ENDS_ROOM};
 
 use crate::codegen::layout::{LINE_ROOM, NEWLINE_AND_SPACES, put_newline_and_spaces};
 use crate::codegen::strings::{BY_ENDS_MAX_LEN, BY_ENDS_ROOM, put_quoted};
@@ -87,9 +90,9 @@ pub struct Quoted<'a>(pub &'a [u8]);
 impl Piece for Quoted<'_> {
     ghost text = { λ string. quoted string.0.now };
 
-    ghost is_short = { λ string. length string.0.now ≤ 32 };
+    ghost is_short = { λ string. length string.0.now ≤ BY_ENDS_MAX_LEN };
 
-    ghost seed_bytes = { λ _. replicate 34 quotation_mark };
+    ghost seed_bytes = { λ _. replicate BY_ENDS_ROOM quotation_mark };
 
     #[inline(always)]
     fn seed(self) -> Option<&'static [u8]> {
@@ -112,9 +115,9 @@ pub struct QuotedKey<'a>(pub &'a [u8], pub bool);
 impl Piece for QuotedKey<'_> {
     ghost text = { λ key. quoted key.0.now ++ colon_text key.1 };
 
-    ghost is_short = { λ key. length key.0.now ≤ 32 };
+    ghost is_short = { λ key. length key.0.now ≤ BY_ENDS_MAX_LEN };
 
-    ghost seed_bytes = { λ _. replicate 36 quotation_mark };
+    ghost seed_bytes = { λ _. replicate (BY_ENDS_ROOM + 2) quotation_mark };
 
     #[inline(always)]
     fn seed(self) -> Option<&'static [u8]> {
@@ -140,7 +143,7 @@ impl Piece for Number {
     // The parts of NaN have the mantissa 0.
     ghost is_short = { λ number. IsCommon (parts_of number).1 (parts_of number).2 };
 
-    ghost seed_bytes = { λ _. replicate 48 minus_sign };
+    ghost seed_bytes = { λ _. replicate DIGITS_ROOM minus_sign };
 
     #[inline(always)]
     fn seed(self) -> Option<&'static [u8]> {
@@ -168,7 +171,7 @@ pub struct Line(pub u128);
 impl Piece for Line {
     ghost text = { λ line. 10 ∷ replicate line.0 32 };
 
-    ghost is_short = { λ line. line.0 < 8 };
+    ghost is_short = { λ line. line.0 < LINE_ROOM };
 
     ghost seed_bytes = { λ _. 10 ∷ replicate 7 32 };
 

@@ -1,19 +1,15 @@
-use Rattle.jzon_base.proofs.Common.{◌≡◌, Bool, ◌∙◌, Err, inl, inr, refl, sym, ap, subst, cond, lit<, chars, true≢false}
+use Rattle.jzon_base.proofs.Common.{◌≡◌, ◌∙◌, Err, inl, inr, refl, sym, ap, subst, cond, lit<, chars}
 use Rattle.jzon_base.proofs.Common.{err_from_is_err_and}
 use Rattle.jzon_tree.specs.View.{view}
 use Rattle.jzon.specs.Answer.{TakesMemory}
 use Rattle.jzon.specs.Private.Brackets.{opener, empty_container, after_opener}
 use Rattle.jzon.specs.Private.Cursor.{left, next_byte}
 use Rattle.jzon.specs.Private.Machine.{no_frames, before, after_value, from, Reads}
-use Rattle.jzon.specs.Private.OpenContainers.{before_item}
-use Rattle.jzon.specs.Private.Targets.{MayBegin}
 use Rattle.jzon.specs.declared.container_kind.ContainerKind.{ContainerKind}
 use Rattle.jzon.specs.declared.container_kind.ContainerKind.TheVariants.{Array, Object}
 use Rattle.jzon.specs.declared.cursor.Cursor.{Cursor}
-use Rattle.jzon.specs.declared.stop.Stop.TheVariants.{Memory}
 use Rattle.jzon.proofs.Containers.FrameViews.{byte_within}
-use Rattle.jzon.proofs.Containers.OpenItems.{before_first}
-use Rattle.jzon.proofs.Texts.Cursors.{utf8_of, token_goes, reads_from}
+use Rattle.jzon.proofs.Texts.Cursors.{utf8_of, reads_from}
 use Rattle.jzon.proofs.Texts.ReportedErrors.{has_character}
 use Rattle.jzon.proofs.parser.read.Goals as goal
 
@@ -25,54 +21,27 @@ takes_memory t Object e =
     inr (inr (has_character t.source.now t.index 123 (utf8_of t) (byte_within t.source.now t.index 123 e (lit< tt)) e
     (lit< tt)))
 
--- ---- a primitive
-
-begins : (t : Cursor) (exact : Bool) → t.reading.exact ≡ exact → MayBegin t.reading no_frames t.source.now t.index exact
-begins t exact same = record { exactness = same; shallow = refl; no_space = t.past_whitespace; no_end = λ f. absurd (true≢false (sym f)) }
-
-pub returns-in_err-end-clause-outcome : goal.returns-in_err-end-clause-outcome
-returns-in_err-end-clause-outcome c =
-    let t = c.new-cursor.result in
-    let bytes = c.args.source.now in
+pub returns-in_default-clause-outcome : goal.returns-in_default-clause-outcome
+returns-in_default-clause-outcome c =
     let past = c.new-cursor.ensures in
-    let failed = err_from_is_err_and c.from_residual.result c.from_residual.ensures.1 in
-    subst (λ z. Reads bytes z (from c.args.reading.now bytes (before no_frames) 0)) (sym failed.1)
-    (reads_from bytes (from c.args.reading.now bytes (before no_frames) 0) t (before no_frames) (Err failed.0)
-    past.text (past.same (before no_frames) refl)
-    (rw failed.2 (c.in_err-end.ensures.outcome.1 t.reading no_frames (begins t c.exact_numbers-exact.result (sym c.exact_numbers-exact.ensures)))))
+    reads_from _ _ c.new-cursor.result (before no_frames) c.read_primitive.result past.text
+    (past.same (before no_frames) refl) c.read_primitive.ensures.outcome
 
-pub returns-in_err-end-clause-memory : goal.returns-in_err-end-clause-memory
-returns-in_err-end-clause-memory c e =
+pub returns-in_default-clause-memory : goal.returns-in_default-clause-memory
+returns-in_default-clause-memory c e =
     let t = c.new-cursor.result in
-    let failed = err_from_is_err_and c.from_residual.result c.from_residual.ensures.1 in
-    let of_value : Err c.in_err-end.field-0.0 ≡ Err Memory = cc (failed.1, failed.2, e) in
-    let quote : next_byte t ≡ 34 = sym c.peek-first.ensures ∙ c.in_err-end.ensures.memory of_value in
+    let quote : next_byte t ≡ 34 = sym c.peek-first.ensures ∙ c.read_primitive.ensures.memory e in
     subst (λ bs. TakesMemory (chars bs)) c.new-cursor.ensures.text
     (inl (has_character t.source.now t.index 34 (utf8_of t) (byte_within t.source.now t.index 34 quote (lit< tt)) quote
     (lit< tt)))
-
-pub returns-in_default-clause-outcome : goal.returns-in_default-clause-outcome
-returns-in_default-clause-outcome c =
-    let t = c.new-cursor.result in
-    let u = c.go_to.new.self in
-    let past = c.new-cursor.ensures in
-    let put = c.in_ok-end.ensures.outcome in
-    let read = token_goes t u (before no_frames) (after_value no_frames (view put.0)) c.in_ok-end.end
-    c.go_to.ensures c.in_ok-end.ensures.end.0 refl (put.2 t.reading no_frames (begins t c.exact_numbers-exact.result (sym c.exact_numbers-exact.ensures))) in
-    reads_from _ _ u (after_value no_frames (view c.put_primitive.new.target)) c.expect_end.result
-    (read.0.text ∙ past.text)
-    (past.same (before no_frames) refl ∙ read.1 ∙ ap (λ v. left u (after_value no_frames (view v))) (sym put.1))
-    c.expect_end.ensures.outcome
-
--- ---- a container
 
 pub returns-in_err-open_container-clause-outcome : goal.returns-in_err-open_container-clause-outcome
 returns-in_err-open_container-clause-outcome c =
     let t = c.new-cursor.result in
     let bytes = c.args.source.now in
     let past = c.new-cursor.ensures in
-    let failed = err_from_is_err_and c.from_residual-in_err-open_container.result
-    c.from_residual-in_err-open_container.ensures.1 in
+    let failed = err_from_is_err_and c.from_residual.result
+    c.from_residual.ensures.1 in
     subst (λ z. Reads bytes z (from c.args.reading.now bytes (before no_frames) 0)) (sym failed.1)
     (reads_from bytes (from c.args.reading.now bytes (before no_frames) 0) t (before no_frames) (Err failed.0)
     past.text (past.same (before no_frames) refl)
@@ -83,18 +52,13 @@ returns-then-branch-clause-outcome c =
     let u = c.open_container.new.self in
     let past = c.new-cursor.ensures in
     let read = c.in_ok-open_container.ensures.outcome no_frames refl refl in
-    reads_from _ _ u (after_value no_frames (view c.empty.result)) c.expect_end-then-branch.result
+    reads_from _ _ u (after_value no_frames (view c.empty.result)) c.expect_end.result
     (read.0.text ∙ past.text)
     (past.same (before no_frames) refl ∙ read.1
     ∙ ap (λ b. left u (cond b (after_value no_frames (empty_container c.in-Some.kind))
     (after_opener c.in-Some.kind no_frames))) c.if-branch.true
     ∙ ap (λ w. left u (after_value no_frames w)) (sym c.empty.ensures))
-    c.expect_end-then-branch.ensures.outcome
-
-pub returns-in_err-stacks-clause-memory : goal.returns-in_err-stacks-clause-memory
-returns-in_err-stacks-clause-memory c e =
-    subst (λ bs. TakesMemory (chars bs)) c.new-cursor.ensures.text
-    (takes_memory c.new-cursor.result c.in-Some.kind (sym c.peek-first.ensures ∙ c.in-Some.ensures))
+    c.expect_end.ensures.outcome
 
 pub returns-clause-outcome : goal.returns-clause-outcome
 returns-clause-outcome c =
@@ -102,12 +66,11 @@ returns-clause-outcome c =
     let past = c.new-cursor.ensures in
     let read = c.in_ok-open_container.ensures.outcome no_frames refl refl in
     let b = c.in-Some.kind in
-    reads_from _ _ u (before_item c.in_ok-stacks.stacks) c.read_to_end.result
+    reads_from _ _ u (after_opener b no_frames) c.read_container.result
     (read.0.text ∙ past.text)
     (past.same (before no_frames) refl ∙ read.1
-    ∙ ap (λ z. left u (cond z (after_value no_frames (empty_container b)) (after_opener b no_frames))) c.if-branch.false
-    ∙ ap (left u) (sym (before_first c.args.reading.now.strict b)) ∙ ap (λ s. left u (before_item s)) (sym c.in_ok-stacks.ensures.ok))
-    c.read_to_end.ensures
+    ∙ ap (λ z. left u (cond z (after_value no_frames (empty_container b)) (after_opener b no_frames))) c.if-branch.false)
+    c.read_container.ensures
 
 pub returns-clause-memory : goal.returns-clause-memory
 returns-clause-memory c e =
