@@ -2,7 +2,7 @@
 use Rattle.std.specs.Prelude.{ℕ, Bool, true, false}
 
 -- strict: only the whitespace of RFC 8259 and no repeated key; depth: how many non-empty containers may be open; exact:
--- only numbers that a `Number` has exactly
+-- only numbers whose value no cut or clamp of a digit or an exponent changes
 pub record Reading : Type 0 where
   pub strict : Bool
   pub depth : ℕ

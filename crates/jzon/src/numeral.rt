@@ -74,8 +74,8 @@ pub(crate) fn read_number(
     Ok((number, spelling.end))
 }
 
-/// The mantissa and the exponent of a number that `read_scanned` doesn't read: its first digit is at
-/// `start`, and its last is before `end`.
+/// The mantissa and the exponent of a number that `read_scanned` doesn't read. Its first digit is at
+/// `start`, and its last is before `end`: these two only give an error its place.
 #[inline(always)]
 fn read_rare(
     exact: bool,

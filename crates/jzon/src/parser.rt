@@ -29,7 +29,8 @@ use std::alloc::Global;
 /// The value that a text means (RFC 8259; docs/RULES.md, "Texts").
 ///
 /// - A number keeps its digits as long as they fit in a `u64`. The others are cut, not rounded, and
-///   an exponent is clamped to -32768 to 32767. An exact `Reading` rejects such a number.
+///   an exponent is clamped to -32768 to 32767. An exact `Reading` rejects a number whose value that
+///   would change.
 /// - Of a repeated key the last value is kept, at the position of the first. A strict `Reading`
 ///   rejects it.
 /// - Whitespace may also have vertical tabs and form feeds. A byte order mark isn't whitespace.

@@ -320,6 +320,7 @@ impl Keys {
         Ok(Keys { keys, index })
     }
 
+    /// Iterates over the keys in order, from both ends.
     pub fn iter(&self) -> Iter<'_>
         ensures { result ≡ self.now }
     {

@@ -178,6 +178,7 @@ impl<V> Pairs<V> {
         }
     }
 
+    /// Whether there is no entry.
     pub fn is_empty(&self) -> bool
         ensures { result ≡ (length self.now == 0) }
     {
@@ -251,6 +252,7 @@ impl<V> Pairs<V> {
         }
     }
 
+    /// The value of a key. `None` if the key is missing.
     #[tactic(auto, using(crate::proofs::Entries::PairPositions::places))]
     pub fn get(&self, name: &str) -> Option<&V>
         ensures { option_copied result ≡ find name.now self.now }

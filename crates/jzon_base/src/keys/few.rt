@@ -43,6 +43,7 @@ fn are_equal(a: &str, b: &str) -> bool
     a.len() == b.len() && last_byte(a) == last_byte(b) && have_same_bytes(a, b)
 }
 
+/// The position of the key with this name.
 #[inline(always)]
 pub fn position(keys: &[Key], name: &str) -> Option<usize>
     ensures { result ≡ position (λ k. bytes_eq k name.now) keys.now }

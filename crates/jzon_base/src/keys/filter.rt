@@ -35,6 +35,7 @@ fn bit_of(name: &str) -> usize
 }
 
 impl Filter {
+    /// A filter of no names.
     pub fn new() -> Filter
         ensures { HaveBits [] result.words }
     {

@@ -31,6 +31,7 @@ impl<V> Contents<V> {
     ghost use Rattle.jzon_base.specs.contracts.pairs.contents.Contents.{the_row};
     ghost use Rattle.jzon_base.specs.PairList.{find, put, set_value, with_default, keys_of, values_of};
 
+    /// The keys, in the order of the entries.
     pub fn keys(&self) -> &Keys
         ensures { result.now ≡ keys_of self.now }
     {

@@ -78,6 +78,7 @@ impl<'a, V> ExactSizeIterator for Iter<'a, V> {
 impl<'a, V> FusedIterator for Iter<'a, V> {}
 
 impl<V> Pairs<V> {
+    /// Iterates over the entries in order, from both ends.
     pub fn iter(&self) -> Iter<'_, V>
         ensures { result ≡ self.now }
     {

@@ -78,6 +78,7 @@ impl<'a, V> FusedIterator for IterMut<'a, V> {}
 impl<V> Pairs<V> {
     ghost use Rattle.jzon_base.specs.IterMut.{iter_mut_rest};
 
+    /// Iterates over the entries in order, from both ends, with each value to be written.
     pub fn iter_mut(&mut self) -> IterMut<'_, V>
         ensures rest { iter_mut_rest result ≡ self.old }
     {

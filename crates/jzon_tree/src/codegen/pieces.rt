@@ -15,10 +15,11 @@ use crate::codegen::strings::{BY_ENDS_MAX_LEN, BY_ENDS_ROOM, put_quoted};
 use jzon_base::number::Number;
 use jzon_base::util::print_dec::{DIGITS_ROOM, is_common, put_digits};
 
-/// The seed of a key; that of any other string is a part of it.
+/// The seed of a key; that of any other string is a part of it. So the quotes around a string are
+/// there already.
 const QUOTES: [u8; BY_ENDS_ROOM + 2] = [b'"'; BY_ENDS_ROOM + 2];
 
-/// The seed of a number.
+/// The seed of a number: where one begins with a minus, it is there already.
 const MINUSES: [u8; DIGITS_ROOM] = [b'-'; DIGITS_ROOM];
 
 /// A piece of a text.
