@@ -2,12 +2,11 @@
 #![tactic(auto)]
 
 use jzon::JsonValue;
-use jzon_typed::decode::{self, DecodeError, Fields, FromJson};
+use jzon_typed::decode::{self, Error, Fields, FromJson};
 use std::alloc::Global;
 use std::collections::BTreeMap;
 use std::io;
 use std::io::{BufRead, BufReader, BufWriter, Write};
-use std::result::Result;
 
 /// How much is logged.
 #[derive(Clone, Copy)]
@@ -51,18 +50,18 @@ struct Config {
 }
 
 impl FromJson for Level {
-    fn from_json(alloc: Global, value: &JsonValue) -> Result<Level, DecodeError> {
+    fn from_json(alloc: Global, value: &JsonValue) -> Result<Level, Error> {
         match value.as_str() {
             Some("debug") => Ok(Level::Debug),
             Some("info") => Ok(Level::Info),
             Some("warn") => Ok(Level::Warn),
-            _ => Err(DecodeError::expected(alloc, value, "\"debug\", \"info\" or \"warn\"")),
+            _ => Err(decode::expected(alloc, value, "\"debug\", \"info\" or \"warn\"")),
         }
     }
 }
 
 impl FromJson for Check {
-    fn from_json(alloc: Global, value: &JsonValue) -> Result<Check, DecodeError> {
+    fn from_json(alloc: Global, value: &JsonValue) -> Result<Check, Error> {
         let check = Fields::of(alloc, value)?;
         match check.str("type")? {
             "connect" => {
@@ -82,7 +81,7 @@ impl FromJson for Check {
 }
 
 impl FromJson for Server {
-    fn from_json(alloc: Global, value: &JsonValue) -> Result<Server, DecodeError> {
+    fn from_json(alloc: Global, value: &JsonValue) -> Result<Server, Error> {
         let server = Fields::only(alloc, value, &["host", "port", "tags"])?;
         Ok(Server {
             host: server.read("host")?,
@@ -93,7 +92,7 @@ impl FromJson for Server {
 }
 
 impl FromJson for Limits {
-    fn from_json(alloc: Global, value: &JsonValue) -> Result<Limits, DecodeError> {
+    fn from_json(alloc: Global, value: &JsonValue) -> Result<Limits, Error> {
         let limits = Fields::only(alloc, value, &["timeout", "price"])?;
         let timeout = limits.read_or("timeout", 30)?;
         if timeout == 0 {
@@ -107,7 +106,7 @@ impl FromJson for Limits {
 }
 
 impl FromJson for Config {
-    fn from_json(alloc: Global, value: &JsonValue) -> Result<Config, DecodeError> {
+    fn from_json(alloc: Global, value: &JsonValue) -> Result<Config, Error> {
         let known = &["name", "level", "check", "limits", "servers", "ports"];
         let config = Fields::only(alloc, value, known)?;
         Ok(Config {

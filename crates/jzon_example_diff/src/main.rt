@@ -1,8 +1,8 @@
-//! Prints for each two lines of JSON the patch that turns the first value into the second:
-//! `diff < pairs`.
+//! Prints for each two lines of JSON the patch that turns the first value into the second, and the
+//! merge patch, or an empty line where there is none: `diff < pairs`.
 #![tactic(auto)]
 
-use jzon_tools::patch;
+use jzon_tools::{merge, patch};
 use std::io;
 use std::io::{BufRead, BufReader, BufWriter, Write};
 
@@ -16,6 +16,10 @@ fn main(rt: HostRuntime) -> io::Result<()> {
             None => before = Some(value),
             Some(old) => {
                 patch::diff(alloc, &old, &value)?.write(&mut out)?;
+                writeln!(out)?;
+                if let Some(patch) = merge::diff(alloc, &old, &value)? {
+                    patch.write(&mut out)?;
+                }
                 writeln!(out)?;
             }
         }

@@ -2,12 +2,11 @@
 #![tactic(auto)]
 
 use jzon::JsonValue;
-use jzon_typed::decode::{self, DecodeError, Fields, FromJson};
+use jzon_typed::decode::{self, Error, Fields, FromJson};
 use jzon_typed::encode::{self, Members, ToJson};
 use std::alloc::Global;
 use std::collections::BTreeMap;
 use std::io::{self, BufRead, BufReader};
-use std::result::Result;
 
 #[derive(Clone, Copy)]
 enum Level {
@@ -40,12 +39,12 @@ struct Config {
 }
 
 impl FromJson for Level {
-    fn from_json(alloc: Global, value: &JsonValue) -> Result<Level, DecodeError> {
+    fn from_json(alloc: Global, value: &JsonValue) -> Result<Level, Error> {
         match value.as_str() {
             Some("info") => Ok(Level::Info),
             Some("warning") => Ok(Level::Warning),
             Some("critical") => Ok(Level::Critical),
-            _ => Err(DecodeError::expected(alloc, value, "\"info\", \"warning\" or \"critical\"")),
+            _ => Err(decode::expected(alloc, value, "\"info\", \"warning\" or \"critical\"")),
         }
     }
 }
@@ -61,7 +60,7 @@ impl ToJson for Level {
 }
 
 impl FromJson for Notify {
-    fn from_json(alloc: Global, value: &JsonValue) -> Result<Notify, DecodeError> {
+    fn from_json(alloc: Global, value: &JsonValue) -> Result<Notify, Error> {
         let notify = Fields::only(alloc, value, &["kind", "to"])?;
         let (kind, to) = (notify.str("kind")?, notify.read("to")?);
         match kind {
@@ -78,15 +77,12 @@ impl ToJson for Notify {
             Notify::Mail { to } => ("mail", to),
             Notify::Call { to } => ("call", to),
         };
-        Members::new(alloc)
-            .put("kind", &kind)?
-            .put("to", to)?
-            .done()
+        Ok(jzon::object! {alloc; kind: kind, to: to.as_str()})
     }
 }
 
 impl FromJson for Service {
-    fn from_json(alloc: Global, value: &JsonValue) -> Result<Service, DecodeError> {
+    fn from_json(alloc: Global, value: &JsonValue) -> Result<Service, Error> {
         let known = &["hosts", "port", "maxPrice", "owner", "labels"];
         let service = Fields::only(alloc, value, known)?;
         Ok(Service {
@@ -112,7 +108,7 @@ impl ToJson for Service {
 }
 
 impl FromJson for Config {
-    fn from_json(alloc: Global, value: &JsonValue) -> Result<Config, DecodeError> {
+    fn from_json(alloc: Global, value: &JsonValue) -> Result<Config, Error> {
         let config = Fields::only(alloc, value, &["fleet", "level", "notify", "services"])?;
         Ok(Config {
             fleet: config.read("fleet")?,

@@ -4,7 +4,8 @@
 #![tactic(auto)]
 
 use jzon::{JsonValue, Place};
-use jzon_typed::decode::{self, DecodeError, Fields, FromJson};
+use jzon_pointer::shown::is_hidden;
+use jzon_typed::decode::{self, Error, Fields, FromJson};
 use std::alloc::Global;
 use std::process::ExitCode;
 use std::{env, io};
@@ -29,7 +30,7 @@ struct Server {
 }
 
 impl FromJson for Settings {
-    fn from_json(alloc: Global, value: &JsonValue) -> Result<Settings, DecodeError> {
+    fn from_json(alloc: Global, value: &JsonValue) -> Result<Settings, Error> {
         let settings = Fields::only(alloc, value, &["port", "timeout", "servers"])?;
         let timeout = settings.read_or("timeout", 30)?;
         if timeout == 0 {
@@ -44,7 +45,7 @@ impl FromJson for Settings {
 }
 
 impl FromJson for Server {
-    fn from_json(alloc: Global, value: &JsonValue) -> Result<Server, DecodeError> {
+    fn from_json(alloc: Global, value: &JsonValue) -> Result<Server, Error> {
         let server = Fields::only(alloc, value, &["host", "port"])?;
         Ok(Server {
             host: server.read("host")?,
@@ -71,7 +72,7 @@ fn main(rt: HostRuntime) -> io::Result<ExitCode> {
         }
         Err(error) => {
             eprintln!(rt; "settings: {error}")?;
-            if let Some(place) = error.place {
+            if let Some(place) = error.place() {
                 eprintln!(rt; "{}", faulty_line(alloc, text.as_str(), place)?)?;
             }
             Ok(ExitCode::FAILURE)
@@ -113,7 +114,7 @@ fn faulty_line(alloc: Global, text: &str, place: Place) -> io::Result<String> {
     let line = text.lines().nth(place.line.saturating_sub(1)).unwrap_or("");
     let mut shown = String::new(alloc);
     for ch in line.chars().skip(place.column.saturating_sub(41)).take(80) {
-        shown.push(if ch.is_control() { ' ' } else { ch })?;
+        shown.push(if is_hidden(ch) { ' ' } else { ch })?;
     }
     Ok(format!(in alloc; "{shown}\n{:>width$}", '^', width = place.column.min(41))?)
 }

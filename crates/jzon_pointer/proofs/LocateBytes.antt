@@ -1,17 +1,18 @@
 -- The walk of specs/Locate over bytes is that over characters: no byte of a character above 127 is a quote, a bracket, a
 -- comma or a backslash.
-use Rattle.jzon_base.proofs.Common.{◌≡◌, ◌∙◌, ◌<◌, ◌≤◌, ℕ, zero, suc, List, [], ◌∷◌, ◌++◌, true, Option, Some, None, length}
+use Rattle.jzon_base.proofs.Common.{◌≡◌, ◌∙◌, ◌<◌, ◌≤◌, ℕ, zero, suc, List, [], ◌∷◌, ◌++◌, Bool, true, false, not, ◌&&◌, ◌==◌, if◌then◌else◌, Option, Some, None, length}
 use Rattle.jzon_base.proofs.Common.{refl, sym, ap, arith, nat_tests, inl, inr, cases_lt, get_or, encode_utf8, encode_utf8_all}
 use Rattle.jzon_base.proofs.Common.{encode_ascii}
 use Rattle.std.proofs.lemmas.Str.{length-encode, len_utf8_bounds}
 use Rattle.jzon.proofs.PrintedUtf8.{encode_large}
 use Rattle.jzon.specs.Reading.{Reading}
-use Rattle.jzon.specs.Grammar.{Node, Elements, Members, IsNode, IsWhitespace}
+use Rattle.jzon.specs.Grammar.{Node, Elements, Members, Each, IsNode, IsWhitespace}
 use Rattle.jzon.specs.TreeCharacters.{node_chars, elements_chars, members_chars}
-use Rattle.jzon_pointer.specs.Locate.{after_byte, skim}
+use Rattle.jzon.specs.Writing.{is_whitespace}
+use Rattle.jzon_pointer.specs.Private.Walk.{after_byte, after_whitespace, skim, string_rest}
 use Rattle.jzon_pointer.specs.declared.locate.Scan.{Scan}
 use Rattle.jzon_pointer.specs.declared.locate.Scan.TheVariants.{Outside, Quoted, Escaped}
-use Rattle.jzon_pointer.proofs.LocateSteps.{passes, pass_one, is_inner, inner_one, skim_element, skim_member}
+use Rattle.jzon_pointer.proofs.LocateSteps.{passes, pass_one, is_inner, inner_one, skim_element, skim_member, string_one}
 
 -- each byte is above 127
 abbrev AreLarge : List ℕ → Type 0
@@ -85,3 +86,49 @@ pub member_ends : (r : Reading) (n : Node) (c : List ℕ) (ms : Members) (t byte
 member_ends r n c ms t bytes h w e =
     ap (skim (Outside zero)) e ∙ skim_bytes (node_chars n (c ++ members_chars ms t)) (Outside zero)
     ∙ ap encode_utf8_all (skim_member r n c ms t h w)
+
+-- ---- the rest of a string, and whitespace
+
+large_string : (e : Bool) (b : ℕ) (t : List ℕ) → 128 ≤ b → string_rest e (b ∷ t) ≡ string_rest false t
+large_string true b t h = refl
+large_string false b t h = string_one b t (b == 34) (b == 92) (large_inner b h)
+
+large_strings : (e : Bool) (bs t : List ℕ) → 1 ≤ length bs → AreLarge bs → string_rest e (bs ++ t) ≡ string_rest false t
+large_strings e [] t one h = absurd (omega (arith, one))
+large_strings e (b ∷ []) t one h = large_string e b t (h 0 (omega arith))
+large_strings e (b ∷ d ∷ bs) t one h =
+    large_string e b (d ∷ bs ++ t) (h 0 (omega arith))
+    ∙ large_strings false (d ∷ bs) t (omega arith) (λ i lt. h (suc i) (omega arith))
+
+small_string : (q e f : Bool) (cs : List ℕ)
+    → ((g : Bool) → string_rest g (encode_utf8_all cs) ≡ encode_utf8_all (string_rest g cs))
+    → (if not e && q then encode_utf8_all cs else string_rest (not e && f) (encode_utf8_all cs))
+    ≡ encode_utf8_all (if not e && q then cs else string_rest (not e && f) cs)
+small_string true false f cs ih = refl
+small_string false false f cs ih = ih f
+small_string q true f cs ih = ih false
+
+pub string_bytes : (cs : List ℕ) (e : Bool) → string_rest e (encode_utf8_all cs) ≡ encode_utf8_all (string_rest e cs)
+string_bytes [] e = refl
+string_bytes (c ∷ cs) e =
+    elim (cases_lt c 128) [
+      | inl small ↦ ap (λ z. string_rest e (z ++ encode_utf8_all cs)) (encode_ascii c small)
+          ∙ small_string (c == 34) e (c == 92) cs (λ g. string_bytes cs g)
+      | inr large ↦ large_strings e (encode_utf8 c) (encode_utf8_all cs) (has_bytes c) (encode_large c large)
+          ∙ string_bytes cs false ∙ ap encode_utf8_all (sym (large_string e c cs large))
+    ]
+
+pub blank_small : (s : Bool) (c : ℕ) → is_whitespace s c ≡ true → (c < 128) × (is_whitespace false c ≡ true)
+blank_small s c h = (grind (arith, nat_tests), grind (arith, nat_tests))
+
+-- whitespace is passed, up to a character that is none
+pub blanks_end : (s : Bool) (w : List ℕ) (c : ℕ) (t : List ℕ) → Each (is_whitespace s) w → c < 128
+    → is_whitespace false c ≡ false → after_whitespace (encode_utf8_all (w ++ (c ∷ t))) ≡ encode_utf8_all (c ∷ t)
+blanks_end s [] c t h small other =
+    let e : encode_utf8_all (c ∷ t) ≡ c ∷ encode_utf8_all t = ap (λ z. z ++ encode_utf8_all t) (encode_ascii c small) in
+    rw e (rw other refl)
+blanks_end s (x ∷ w) c t h small other =
+    let b = blank_small s x h.0 in
+    let e : encode_utf8_all (x ∷ w ++ (c ∷ t)) ≡ x ∷ encode_utf8_all (w ++ (c ∷ t)) =
+    ap (λ z. z ++ encode_utf8_all (w ++ (c ∷ t))) (encode_ascii x b.0) in
+    rw e (rw b.1 (blanks_end s w c t h.1 small other))

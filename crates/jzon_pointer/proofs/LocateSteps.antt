@@ -14,7 +14,7 @@ use Rattle.jzon.specs.Grammar.{IsKey, IsNode, AreElements, AreMembers, is_unesca
 use Rattle.jzon.specs.Grammar as grammar
 use Rattle.jzon.specs.TreeCharacters.{fraction_chars, sign_chars, exponent_chars, magnitude_chars, numeral_chars}
 use Rattle.jzon.specs.TreeCharacters.{item_chars, items_chars, key_chars, node_chars, elements_chars, members_chars}
-use Rattle.jzon_pointer.specs.Locate.{after_string, closed, parted, skim, string_rest}
+use Rattle.jzon_pointer.specs.Private.Walk.{after_string, closed, parted, skim, string_rest}
 use Rattle.jzon_pointer.specs.declared.locate.Scan.TheVariants.{Outside, Quoted, Escaped}
 
 -- ---- outside of strings
@@ -207,7 +207,7 @@ skim_member r n c ms t h w =
 
 -- ---- the string of a key
 
-string_one : (c : ℕ) (t : List ℕ) (q e : Bool) → not (q || e) ≡ true
+pub string_one : (c : ℕ) (t : List ℕ) (q e : Bool) → not (q || e) ≡ true
     → (if q then t else string_rest e t) ≡ string_rest false t
 string_one c t false false h = refl
 string_one c t true e h = absurd (false≢true h)

@@ -1,6 +1,9 @@
 pub mod ErrorTexts
+pub mod Errors
 pub mod Escaped
 pub mod Locate
 pub mod Names
 pub mod Pointer
 pub mod Shown
+-- private
+pub mod Private

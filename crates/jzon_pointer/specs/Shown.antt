@@ -1,7 +1,8 @@
 -- A stranger's text in a message: one line, of a bounded length.
-use Rattle.std.specs.Prelude.{ℕ, suc, List, [], ◌∷◌, ◌++◌, ◌-◌, ◌/◌, ◌%◌, Bool, ◌||◌, ◌&&◌, ◌==◌, nat_lt, nat_le, if◌then◌else◌}
-use Rattle.std.specs.Prelude.{chars, codes, encode_utf8, flat_map, length}
+use Rattle.std.specs.Prelude.{ℕ, suc, List, [], ◌∷◌, ◌++◌, ◌+◌, ◌-◌, ◌/◌, ◌%◌, Bool, not, ◌||◌, ◌&&◌, ◌==◌, nat_lt, nat_le, if◌then◌else◌}
+use Rattle.std.specs.Prelude.{chars, codes, encode_utf8, flat_map, length, max, min, take}
 use Rattle.std.specs.Char.{digit_char}
+use Rattle.std.specs.List.{list_all}
 use Rattle.jzon.specs.Error.{Error}
 use Rattle.jzon.specs.Error.TheVariants.{UnexpectedCharacter}
 use Rattle.jzon.specs.ErrorText.{place_text as position_text}
@@ -23,11 +24,19 @@ byte_text b = digit_char (b / 16) ∷ digit_char (b % 16) ∷ []
 abbrev pub escape_text : ℕ → List ℕ
 escape_text c = codes "\\u" ++ (byte_text (c / 256) ++ byte_text (c % 256))
 
+-- whether it is a tag (U+E0000 to U+E007F), which isn't seen either
+abbrev pub is_tag : ℕ → Bool
+is_tag c = nat_le 917504 c && nat_le c 917631
+
+-- the escapes of a tag's two surrogates
+abbrev pub tag_text : ℕ → List ℕ
+tag_text c = escape_text 56128 ++ escape_text (c - 917504 + 56320)
+
 -- a character in a string of JSON; a hidden one is escaped
 abbrev pub shown_char : ℕ → List ℕ
 shown_char c = if c == 34 then codes "\\\"" else (if c == 92 then codes "\\\\" else (if c == 10 then codes "\\n" else
     (if c == 13 then codes "\\r" else (if c == 9 then codes "\\t" else
-    (if is_hidden c then escape_text c else encode_utf8 c)))))
+    (if is_hidden c then escape_text c else (if is_tag c then tag_text c else encode_utf8 c))))))
 
 -- a text with such escapes
 abbrev pub shown_text : List ℕ → List ℕ
@@ -46,13 +55,35 @@ pieces front last i (c ∷ cs) = piece front last i c ++ pieces front last (suc 
 abbrev pub cut_text : ℕ → ℕ → List ℕ → List ℕ
 cut_text front back bytes = pieces front (length (chars bytes) - back) 0 (chars bytes)
 
--- a token or a key: of more than 40 characters, the first 40
-abbrev pub token_shown : List ℕ → List ℕ
-token_shown bytes = cut_text 40 0 bytes
+-- how many bytes the widest of some characters takes where it is shown, and at least 1
+abbrev pub widest : List ℕ → ℕ
+widest [] = 1
+widest (c ∷ cs) = max (length (shown_char c)) (widest cs)
 
--- a pointer: of more than 200 characters, the first 100 and the last 100
+-- how many characters of a text surely take at most n bytes
+abbrev pub fitting : ℕ → List ℕ → ℕ
+fitting n bytes = n / widest (chars bytes)
+
+-- a token or a key: 40 characters and 240 bytes at most, and dots
+abbrev pub token_shown : List ℕ → List ℕ
+token_shown bytes = cut_text (min (fitting 240 bytes) 40) 0 bytes
+
+-- whether it is no hidden character
+abbrev pub is_seen : ℕ → Bool
+is_seen c = not (is_hidden c) && not (is_tag c)
+
+-- words of a program: as they are, or, if they are longer or one of them is hidden, 200 bytes at most, and dots
+abbrev pub words_shown : List ℕ → List ℕ
+words_shown bytes = if nat_le (length bytes) 200 && list_all is_seen (chars bytes) then bytes
+    else cut_text (fitting 200 bytes) 0 bytes
+
+-- a pointer: of a long one at most 100 bytes of its beginning, and of its end
 abbrev pub pointer_shown : List ℕ → List ℕ
-pointer_shown bytes = cut_text 100 100 bytes
+pointer_shown bytes = cut_text (fitting 100 bytes) (fitting 100 bytes) bytes
+
+-- a name that a program knows: 40 bytes at most, and dots
+abbrev pub name_shown : List ℕ → List ℕ
+name_shown bytes = cut_text (fitting 40 bytes) 0 bytes
 
 -- the pointer of a value, and a colon; nothing of the whole value
 abbrev pub place_text : List ℕ → List ℕ
@@ -66,9 +97,13 @@ text_error_text e l = located_text l
 
 -- names after others, with commas before them
 abbrev pub others_text : List (List ℕ) → List ℕ
-others_text ns = flat_map (λ n. codes ", " ++ n) ns
+others_text ns = flat_map (λ n. codes ", " ++ name_shown n) ns
+
+-- names after the first: seven at most, and dots
+abbrev pub more_text : List (List ℕ) → List ℕ
+more_text ns = if nat_le (length ns) 7 then others_text ns else others_text (take 7 ns) ++ codes ", .."
 
 -- names, with commas between them
 abbrev pub names_text : List (List ℕ) → List ℕ
 names_text [] = codes "none"
-names_text (n ∷ ns) = n ++ others_text ns
+names_text (n ∷ ns) = name_shown n ++ more_text ns

@@ -2,10 +2,11 @@
 //! and how a pointer is shown in a message (docs/TOOLS.md).
 #![tactic(auto)]
 
+pub mod error;
 pub mod locate;
 pub mod names;
 mod pointer;
 pub mod shown;
 pub mod token;
 
-pub use pointer::{InPointer, PointerError, Primitive, Reason, find, get, push_token};
+pub use pointer::{PointerError, Primitive, Reason, find, get, push_token, seek};

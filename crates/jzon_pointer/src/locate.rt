@@ -1,19 +1,29 @@
 //! Where in a text the value stands that a JSON pointer names.
 //!
 //! The text is walked once, without a tree: what the pointer passes by is skipped by its brackets and
-//! quotes alone. specs/Locate.antt says what each step finds.
+//! quotes alone. `pointed` of specs/Locate.antt says which value of the text that is.
+//!
+//! `Walk::find`, `find_element`, `find_member` and `pass_entry` call one another, once for each token;
+//! proofs/locate/Walk/+walk says what gets smaller: the number of tokens that are left.
 
-ghost use Rattle.std.specs.Prelude.{◌≡◌, ◌<◌, ◌≤◌, ◌+◌, ◌^◌, count_by, drop, length, chars, false, None, Ok, IfOk, IfSome, slice_index};
-ghost use Rattle.jzon.specs.Fault.{line, column};
-ghost use Rattle.jzon.specs.Private.Lines.{is_below};
+ghost use Rattle.std.specs.Prelude.{◌≡◌, ◌<◌, ◌≤◌, ◌+◌, ◌^◌, ◌∷◌, ◌++◌, [], List, ℕ, drop, length, chars, false, true, IfErr, IfOk, IfSome, Ok, map, None, option_map, Some, slice_index};
+ghost use Rattle.jzon_base.specs.declared.error.Error.TheVariants.{OutOfMemory};
+ghost use Rattle.jzon.specs.Fault.{Parses};
+ghost use Rattle.jzon.specs.Grammar.{Document};
 ghost use Rattle.jzon.specs.Writing.{is_whitespace};
-ghost use Rattle.jzon_pointer.specs.Locate.{IsPlaceIn, after_byte, after_string, after_whitespace, depth, skim};
+ghost use Rattle.jzon_pointer.specs.Locate.{IsMeant, IsPlaceIn, IsPlaceOf, pointed, value_text};
+ghost use Rattle.jzon_pointer.specs.Private.Walk.{EndsAfter, Finds, IsSpotOf, NamesQuoted, Passes, ReadsElement, ReadsEntry, ReadsKey, after_byte, after_string, after_whitespace, depth, is_memory, skim, string_rest};
+ghost use Rattle.jzon_pointer.specs.Pointer.{index_named, names, tokens_of};
 ghost use Rattle.jzon_pointer.specs.declared.locate.Scan.{Scan};
-ghost use Rattle.jzon_pointer.specs.declared.locate.Scan.TheVariants.{Outside};
+ghost use Rattle.jzon_pointer.specs.declared.locate.Scan.TheVariants.{Outside, Quoted};
 
-use crate::token::{first_token, index_of, key_of};
+use crate::token::{first_token, index_of, is_name};
 use jzon::{Error, Place, Reading, parse};
-use std::alloc::Global;
+use jzon_base::util::plain::plain_len;
+use std::alloc::{AllocError, Global};
+
+/// No index has more digits.
+const INDEX_DIGITS: usize = 20;
 
 /// Where a value stands.
 #[derive(Clone, Copy)]
@@ -22,6 +32,37 @@ struct Spot {
     name: usize,
     /// The offset of the value.
     value: usize,
+}
+
+/// What a walk over a value has come to.
+#[derive(Clone, Copy)]
+struct Passed {
+    /// The value inside it that the tokens name.
+    found: Option<Spot>,
+    /// The offset of the comma or the bracket after the value. `None` where keys are unique: nothing
+    /// is looked for after a value that a token names.
+    end: Option<usize>,
+}
+
+/// An entry of an object, whose key's opening quote is known.
+#[derive(Clone, Copy)]
+struct Entry {
+    /// The offset after the closing quote of the key.
+    key_end: usize,
+    /// The offset of the value.
+    value: usize,
+}
+
+/// A walk over a text to the value that tokens name.
+#[derive(Drop)]
+struct Walk<'a> {
+    alloc: Global,
+    text: &'a str,
+    tokens: Vec<&'a str>,
+    /// How many containers that aren't empty the reading allows to be open.
+    depth: usize,
+    /// Whether no object has a key twice.
+    unique: bool,
 }
 
 /// What a byte of an item's text is part of, inside this many brackets of the item.
@@ -33,92 +74,259 @@ enum Scan {
 }
 
 /// The place of the value that a pointer names in a text that the reading accepts: of a repeated key
-/// the last one counts. `None` if it names none. Another text may give either.
+/// the last one counts. `None` if it names none. Of a text that the reading rejects, it may be any
+/// place or none.
 ///
-/// By a strict reading, which accepts no repeated key, the time is linear; by another one the
-/// text may be read once for each token.
+/// Takes time for the length of the text and of the pointer, whatever they hold; by a strict reading,
+/// which accepts no repeated key, the text is read only up to the place. Memory is taken for the
+/// pointer's tokens, and for one key with an escape at a time: the only error is `OutOfMemory`.
+///
+/// `/a/1` in `{"a": [1, true]}` is at offset 10, in line 1 and column 11.
+#[tactic(auto, using(crate::proofs::LocateMeaning::is_meant))]
 pub fn value_in(
     alloc: Global,
     text: &str,
     pointer: &str,
     reading: &Reading,
 ) -> jzon::Result<Option<Place>>
-    ensures { IfOk result (λ found. IfSome found (IsPlaceIn text.now)) }
+    ensures place { IfOk result (λ found. IfSome found (IsPlaceIn text.now)) }
+    ensures named { IfOk result (λ found. (d : Document) → Parses reading.now (chars text.now) d
+        → IsPlaceOf text.now value_text found (pointed d pointer.now)) }
+    ensures memory { IfErr result (λ e. e ≡ OutOfMemory) }
+    ensures meant { IsMeant pointer.now }
 {
-    match spot_in(alloc, text, pointer, reading.strict())? {
-        Some(spot) => Ok(place_at(text, spot.value)),
+    match spot_in(alloc, text, pointer, reading)? {
+        Some(spot) => Ok(Place::at(text, spot.value)),
         None => Ok(None),
     }
 }
 
-/// The place of the key of the entry that a pointer names, and of an element the element's own.
+/// The place of the key of the entry that a pointer names, and of an element the element's own. All
+/// else is as with `value_in`.
 pub fn key_in(
     alloc: Global,
     text: &str,
     pointer: &str,
     reading: &Reading,
 ) -> jzon::Result<Option<Place>>
-    ensures { IfOk result (λ found. IfSome found (IsPlaceIn text.now)) }
+    ensures place { IfOk result (λ found. IfSome found (IsPlaceIn text.now)) }
+    ensures named { IfOk result (λ found. (d : Document) → Parses reading.now (chars text.now) d
+        → IsPlaceOf text.now (λ p. p.from) found (pointed d pointer.now)) }
+    ensures memory { IfErr result (λ e. e ≡ OutOfMemory) }
 {
-    match spot_in(alloc, text, pointer, reading.strict())? {
-        Some(spot) => Ok(place_at(text, spot.name)),
+    match spot_in(alloc, text, pointer, reading)? {
+        Some(spot) => Ok(Place::at(text, spot.name)),
         None => Ok(None),
     }
 }
 
-fn spot_in(alloc: Global, text: &str, pointer: &str, unique: bool) -> jzon::Result<Option<Spot>> {
+/// Where the value stands that a pointer names.
+fn spot_in(
+    alloc: Global,
+    text: &str,
+    pointer: &str,
+    reading: &Reading,
+) -> jzon::Result<Option<Spot>>
+    ensures named { IfOk result (λ found. (d : Document) → Parses reading.now (chars text.now) d
+        → IsSpotOf text.now found (pointed d pointer.now)) }
+    ensures memory { IfErr result (λ e. e ≡ OutOfMemory) }
+{
+    let Some(tokens) = tokens_in(alloc, pointer)? else {
+        return Ok(None);
+    };
     let start = whitespace_end(text.as_bytes(), 0);
-    let mut spot = Spot {
+    let walk = Walk {
+        alloc,
+        text,
+        tokens,
+        depth: usize::from(reading.depth()),
+        unique: reading.strict(),
+    };
+    let whole = Spot {
         name: start,
         value: start,
     };
+    Ok(walk.find(whole, 0)?.found)
+}
+
+/// The tokens of a pointer, or `None` if its text isn't empty and begins with no slash.
+fn tokens_in<'a>(alloc: Global, pointer: &'a str) -> Result<Option<Vec<&'a str>>, AllocError>
+    ensures { IfOk result (λ tokens. option_map (λ ts. map (λ t. t.now) ts.items) tokens
+        ≡ tokens_of pointer.now) }
+{
+    let mut tokens = Vec::new(alloc);
     if pointer.is_empty() {
-        return Ok(Some(spot));
+        return Ok(Some(tokens));
     }
-    let mut left = pointer.strip_prefix('/');
-    if left.is_none() {
-        return Ok(None);
-    }
+    let after_slash = match pointer.strip_prefix('/') {
+        Some(path) => path,
+        None => return Ok(None),
+    };
+    let mut left = Some(after_slash);
     'tokens: while let Some(path) = left {
         let (token, others) = first_token(path);
-        match child_at(alloc, text, spot.value, token, unique)? {
-            Some(child) => spot = child,
-            None => return Ok(None),
-        }
+        tokens.push(token)?;
         left = others;
     }
-    Ok(Some(spot))
+    Ok(Some(tokens))
 }
 
-/// The child that a token names of the value at an offset.
-fn child_at(
-    alloc: Global,
-    text: &str,
-    start: usize,
-    token: &str,
-    unique: bool,
-) -> jzon::Result<Option<Spot>> {
-    let bytes = text.as_bytes();
-    match byte_at(bytes, start) {
-        b'[' => match index_of(token) {
-            Some(index) => Ok(element_at(bytes, start + 1, index)),
-            None => Ok(None),
-        },
-        b'{' => match key_of(alloc, token)? {
-            Some(key) => member_at(alloc, text, start + 1, key.as_str(), unique),
-            None => Ok(None),
-        },
-        _ => Ok(None),
+impl Walk<'_> {
+    /// Walks over the value at a spot to what the tokens from this one on name in it.
+    #[cycle(walk)]
+    fn find(&self, spot: Spot, level: usize) -> jzon::Result<Passed>
+        requires { spot.value ≤ length self.now.text.now }
+        ensures found { IfOk result (Finds self.now.text.now self.now.unique self.now.depth
+            (drop level (map (λ t. t.now) self.now.tokens.items)) level spot) }
+        ensures within { IfOk result (λ w. IfSome w.end (λ e. (spot.value ≤ e) × (e ≤ length self.now.text.now))) }
+        ensures memory { IfErr result (λ e. e ≡ OutOfMemory) }
+    {
+        if level >= self.tokens.len() {
+            return Ok(Passed {
+                found: Some(spot),
+                end: self.end_after(spot.value, 0),
+            });
+        }
+        if level < self.depth {
+            match byte_at(self.text.as_bytes(), spot.value) {
+                b'[' => return self.find_element(spot, level),
+                b'{' => return self.find_member(spot, level),
+                _ => {}
+            }
+        }
+        Ok(Passed {
+            found: None,
+            end: self.end_after(spot.value, 0),
+        })
+    }
+
+    /// The same of an array.
+    #[cycle(walk)]
+    fn find_element(&self, spot: Spot, level: usize) -> jzon::Result<Passed>
+        requires level { level < length self.now.tokens.items }
+        requires bracket { slice_index self.now.text.now spot.value ≡ 91 }
+        requires within { spot.value < length self.now.text.now }
+        ensures found { IfOk result (Finds self.now.text.now self.now.unique self.now.depth
+            (drop level (map (λ t. t.now) self.now.tokens.items)) level spot) }
+        ensures within { IfOk result (λ w. IfSome w.end (λ e. (spot.value ≤ e) × (e ≤ length self.now.text.now))) }
+        ensures memory { IfErr result (λ e. e ≡ OutOfMemory) }
+    {
+        let start = spot.value + 1;
+        let Some(at) = element_at(self.text.as_bytes(), start, self.tokens[level]) else {
+            return Ok(Passed {
+                found: None,
+                end: self.end_after(start, 1),
+            });
+        };
+        let element = self.find(
+            Spot {
+                name: at,
+                value: at,
+            },
+            level + 1,
+        )?;
+        let Some(end) = element.end else {
+            return Ok(element);
+        };
+        Ok(Passed {
+            found: element.found,
+            end: self.end_after(end, 1),
+        })
+    }
+
+    /// The same of an object, to the last of its entries whose key the token names.
+    #[cycle(walk)]
+    fn find_member(&self, spot: Spot, level: usize) -> jzon::Result<Passed>
+        requires level { level < length self.now.tokens.items }
+        requires bracket { slice_index self.now.text.now spot.value ≡ 123 }
+        requires within { spot.value < length self.now.text.now }
+        ensures found { IfOk result (Finds self.now.text.now self.now.unique self.now.depth
+            (drop level (map (λ t. t.now) self.now.tokens.items)) level spot) }
+        ensures within { IfOk result (λ w. IfSome w.end (λ e. (spot.value ≤ e) × (e ≤ length self.now.text.now))) }
+        ensures memory { IfErr result (λ e. e ≡ OutOfMemory) }
+    {
+        let bytes = self.text.as_bytes();
+        let mut found = None;
+        let mut name = whitespace_end(bytes, spot.value + 1);
+        'entries: while let Some(entry) = entry_at(bytes, name) {
+            let passed = self.pass_entry(name, entry, level, found)?;
+            let Some(end) = passed.end else {
+                return Ok(passed);
+            };
+            found = passed.found;
+            if byte_at(bytes, end) != b',' {
+                return Ok(Passed {
+                    found,
+                    end: self.end_after(end, 1),
+                });
+            }
+            name = whitespace_end(bytes, end + 1);
+        }
+        Ok(Passed {
+            found,
+            end: self.end_after(name, 1),
+        })
+    }
+
+    /// Walks over one entry. What was `found` before stays, unless the token names its key.
+    #[cycle(walk)]
+    fn pass_entry(
+        &self,
+        name: usize,
+        entry: Entry,
+        level: usize,
+        found: Option<Spot>,
+    ) -> jzon::Result<Passed>
+        requires level { level < length self.now.tokens.items }
+        requires within { (name < entry.value) × (entry.value ≤ length self.now.text.now) }
+        ensures passed { IfOk result (Passes self.now.text.now self.now.unique self.now.depth
+            (drop level (map (λ t. t.now) self.now.tokens.items)) level name entry found) }
+        ensures within { IfOk result (λ w. IfSome w.end (λ e. (name < e) × (e ≤ length self.now.text.now))) }
+        ensures memory { IfErr result (λ e. e ≡ OutOfMemory) }
+    {
+        if is_key(
+            self.alloc,
+            self.text,
+            name,
+            entry.key_end,
+            self.tokens[level],
+        )? {
+            let spot = Spot {
+                name,
+                value: entry.value,
+            };
+            return self.find(spot, level + 1);
+        }
+        Ok(Passed {
+            found,
+            end: Some(item_end(self.text.as_bytes(), entry.value, 0)),
+        })
+    }
+
+    /// The offset of the comma or the bracket after what is inside this many brackets from an offset
+    /// on, unless keys are unique.
+    fn end_after(&self, start: usize, brackets: usize) -> Option<usize>
+        requires within { start ≤ length self.now.text.now }
+        requires one { brackets ≤ 1 }
+        ensures { EndsAfter self.now.text.now self.now.unique start brackets result }
+    {
+        if self.unique {
+            return None;
+        }
+        Some(item_end(self.text.as_bytes(), start, brackets))
     }
 }
 
-/// The element at an index of the array whose bracket ends at an offset.
-fn element_at(bytes: &[u8], start: usize, index: usize) -> Option<Spot>
+/// The offset of the element that a token names, of the array whose bracket ends at an offset.
+fn element_at(bytes: &[u8], start: usize, token: &str) -> Option<usize>
     requires { start ≤ length bytes.now }
+    ensures element { ReadsElement bytes.now start token.now result }
+    ensures within { IfSome result (λ at. (start ≤ at) × (at < length bytes.now)) }
 {
+    let index = index_in(token)?;
     let mut at = whitespace_end(bytes, start);
     for _passed in 0..index {
-        let comma = item_end(bytes, at);
+        let comma = item_end(bytes, at, 0);
         if byte_at(bytes, comma) != b',' {
             return None;
         }
@@ -126,67 +334,95 @@ fn element_at(bytes: &[u8], start: usize, index: usize) -> Option<Spot>
     }
     match byte_at(bytes, at) {
         0 | b']' => None,
-        _ => Some(Spot {
-            name: at,
-            value: at,
-        }),
+        _ => Some(at),
     }
 }
 
-/// The last entry with a key of the object whose bracket ends at an offset, or the first if keys are
-/// `unique`.
-fn member_at(
-    alloc: Global,
-    text: &str,
-    start: usize,
-    key: &str,
-    unique: bool,
-) -> jzon::Result<Option<Spot>>
-    requires { start ≤ length text.now }
+/// The index that a token names. A longer token isn't looked at, since it may be met in each array.
+#[tactic(auto, using(crate::proofs::LocateIndex::long_token))]
+fn index_in(token: &str) -> Option<usize>
+    ensures { result ≡ index_named token.now }
 {
-    let bytes = text.as_bytes();
-    let mut found = None;
-    let mut name = whitespace_end(bytes, start);
-    'entries: while byte_at(bytes, name) == b'"' {
-        let end = string_end(bytes, name + 1);
-        let is_same = is_key(alloc, text, name, end, key)?;
-        let colon = whitespace_end(bytes, end);
-        if byte_at(bytes, colon) != b':' {
-            return Ok(found);
-        }
-        let value = whitespace_end(bytes, colon + 1);
-        if is_same {
-            found = Some(Spot { name, value });
-            if unique {
-                return Ok(found);
-            }
-        }
-        let comma = item_end(bytes, value);
-        if byte_at(bytes, comma) != b',' {
-            return Ok(found);
-        }
-        name = whitespace_end(bytes, comma + 1);
+    if token.len() > INDEX_DIGITS {
+        return None;
     }
-    Ok(found)
+    index_of(token)
 }
 
-/// Whether the string between these offsets, quotes included, means this key. Only one with an
-/// escape is read into memory.
-fn is_key(alloc: Global, text: &str, start: usize, end: usize, key: &str) -> jzon::Result<bool> {
+/// The entry whose key begins at an offset.
+fn entry_at(bytes: &[u8], name: usize) -> Option<Entry>
+    requires { name ≤ length bytes.now }
+    ensures entry { ReadsEntry bytes.now name result }
+    ensures quote { IfSome result (λ _. slice_index bytes.now name ≡ 34) }
+    ensures within { IfSome result (λ e. (name < e.value) × (e.value ≤ length bytes.now)) }
+{
+    if byte_at(bytes, name) != b'"' {
+        return None;
+    }
+    let key_end = string_end(bytes, name + 1);
+    let colon = whitespace_end(bytes, key_end);
+    if byte_at(bytes, colon) != b':' {
+        return None;
+    }
+    Some(Entry {
+        key_end,
+        value: whitespace_end(bytes, colon + 1),
+    })
+}
+
+/// Whether a token names the key between these offsets, quotes included. Only one with an escape is
+/// read into memory.
+fn is_key(alloc: Global, text: &str, start: usize, end: usize, token: &str) -> jzon::Result<bool>
+    ensures names { IfOk result (ReadsKey text.now start end token.now) }
+    ensures memory { IfErr result (λ e. e ≡ OutOfMemory) }
+{
     let Some(quoted) = text.get(start..end) else {
         return Ok(false);
     };
-    if !quoted.contains('\\') {
-        let Some(opened) = quoted.strip_prefix('"') else {
-            return Ok(false);
-        };
-        return Ok(opened.strip_suffix('"') == Some(key));
+    if quoted.contains('\\') {
+        return is_escaped_key(alloc, quoted, token);
     }
+    Ok(is_plain_key(quoted, token))
+}
+
+/// Whether a token names the key whose string has no backslash.
+fn is_plain_key(quoted: &str, token: &str) -> bool
+    ensures { (key : List ℕ) → quoted.now ≡ 34 ∷ (key ++ 34 ∷ []) → result ≡ names token.now key }
+{
+    let Some(opened) = quoted.strip_prefix('"') else {
+        return false;
+    };
+    match opened.strip_suffix('"') {
+        Some(key) => is_name(token, key),
+        None => false,
+    }
+}
+
+/// Whether a token names the key that a string of JSON means.
+fn is_escaped_key(alloc: Global, quoted: &str, token: &str) -> jzon::Result<bool>
+    ensures names { IfOk result (NamesQuoted quoted.now token.now) }
+    ensures memory { IfErr result (λ e. e ≡ OutOfMemory) }
+{
     match parse(alloc, quoted) {
-        Ok(string) => Ok(string.as_str() == Some(key)),
-        Err(Error::OutOfMemory) => Err(Error::OutOfMemory),
-        Err(_refused) => Ok(false),
+        Ok(string) => match string.as_str() {
+            Some(key) => Ok(is_name(token, key)),
+            None => Ok(false),
+        },
+        Err(error) => {
+            if is_memory(&error) {
+                return Err(error);
+            }
+            Ok(false)
+        }
     }
+}
+
+/// Whether an allocation failed.
+fn is_memory(error: &Error) -> bool
+    ensures test { result ≡ is_memory error.now }
+    ensures error { result ≡ true → error.now ≡ OutOfMemory }
+{
+    matches!(error, Error::OutOfMemory)
 }
 
 /// The byte at an offset, or 0 at the end.
@@ -228,7 +464,7 @@ fn string_end(bytes: &[u8], start: usize) -> usize
     ensures within { result ≤ length bytes.now }
 {
     let mut escaped = false;
-    let mut at = start;
+    let mut at = plain_end(bytes, start);
     while at < bytes.len() {
         let byte = bytes[at];
         at += 1;
@@ -240,22 +476,40 @@ fn string_end(bytes: &[u8], start: usize) -> usize
     at
 }
 
-/// The offset of the comma or the closing bracket after the item of an array or an object, which
-/// begins at an offset, or that of the end.
-fn item_end(bytes: &[u8], start: usize) -> usize
-    requires { start ≤ length bytes.now }
-    ensures rest { drop result bytes.now ≡ skim (Outside 0) (drop start bytes.now) }
+/// The offset after the bytes of a string from an offset on that need no escape.
+fn plain_end(bytes: &[u8], at: usize) -> usize
+    requires { at ≤ length bytes.now }
+    ensures skims { (d : ℕ) → skim (Quoted d) (drop result bytes.now) ≡ skim (Quoted d) (drop at bytes.now) }
+    ensures string { string_rest false (drop result bytes.now) ≡ string_rest false (drop at bytes.now) }
+    ensures after { at ≤ result }
+    ensures within { result ≤ length bytes.now }
+{
+    at + plain_len(&bytes[at..])
+}
+
+/// The offset of the comma or the closing bracket after the item of an array or an object, of which
+/// at an offset this many brackets are open, or that of the end.
+fn item_end(bytes: &[u8], start: usize, brackets: usize) -> usize
+    requires within { start ≤ length bytes.now }
+    requires one { brackets ≤ 1 }
+    ensures rest { drop result bytes.now ≡ skim (Outside brackets) (drop start bytes.now) }
     ensures after { start ≤ result }
     ensures within { result ≤ length bytes.now }
 {
-    let mut scan = Scan::Outside(0);
+    let mut scan = Scan::Outside(brackets);
     let mut at = start;
     while at < bytes.len() {
         match scan.after(bytes[at]) {
-            Some(next) => scan = next,
+            Some(Scan::Quoted(depth)) => {
+                scan = Scan::Quoted(depth);
+                at = plain_end(bytes, at + 1);
+            }
+            Some(next) => {
+                scan = next;
+                at += 1;
+            }
             None => return at,
         }
-        at += 1;
     }
     at
 }
@@ -283,52 +537,4 @@ impl Scan {
             },
         }
     }
-}
-
-/// The place at an offset, if it is that of a character or of the end.
-fn place_at(text: &str, offset: usize) -> Option<Place>
-    ensures { IfSome result (IsPlaceIn text.now) }
-{
-    if !text.is_char_boundary(offset) {
-        return None;
-    }
-    let before = &text[..offset];
-    Some(Place {
-        offset,
-        line: line_after(before),
-        column: column_after(before),
-    })
-}
-
-/// The line of the character after a text.
-fn line_after(before: &str) -> usize
-    ensures { result ≡ line (chars before.now) }
-{
-    newlines(before.as_bytes()) + 1
-}
-
-/// Its column.
-fn column_after(before: &str) -> usize
-    ensures { result ≡ column (chars before.now) }
-{
-    match before.rfind('\n') {
-        None => characters(before) + 1,
-        Some(newline) => characters(&before[newline + 1..]) + 1,
-    }
-}
-
-/// How many bytes are newlines.
-fn newlines(bytes: &[u8]) -> usize
-    ensures count { result ≡ count_by (is_below 10 1) bytes.now }
-    ensures within { result ≤ length bytes.now }
-{
-    bytes.iter().filter(|byte| (**byte ^ b'\n') < 1).count()
-}
-
-/// How many characters a text has.
-fn characters(text: &str) -> usize
-    ensures count { result ≡ length (chars text.now) }
-    ensures within { result ≤ length text.now }
-{
-    text.chars().count()
 }

@@ -4,22 +4,20 @@
 //! `value_at` of specs/Pointer.antt says which value that is, or which token names nothing.
 
 ghost use Rattle.std.specs.Prelude.{◌≡◌, ◌∷◌, ◌++◌, [], List, ℕ, OnOk, OnErr, IfOk, IfErr, Ok, Err, Some, string_bytes, option_map};
-ghost use Rattle.std.specs.IoError.{error_kind};
 ghost use Rattle.std.specs.Result.{result_ok};
 ghost use Rattle.jzon.specs.View.{view};
-ghost use Rattle.jzon_pointer.specs.ErrorTexts.{before, behind, explained, parent_text, pointed_text, pointer_error_kind, pointer_error_text, primitive_text, reason_text, token_text};
+ghost use Rattle.jzon_pointer.specs.ErrorTexts.{before, behind, parent_text, primitive_text, token_text};
+ghost use Rattle.jzon_pointer.specs.Errors.{IsLost};
 ghost use Rattle.jzon_pointer.specs.Escaped.{escaped};
 ghost use Rattle.jzon_pointer.specs.Pointer.{child_of, reason_of, tokens_left, tokens_of, token_key, value_at};
 
-pub use crate::shown::ShownPointer;
-use crate::shown::ShownToken;
+use crate::error::{Error, What};
 use crate::token::{
     after_slash, first_token, has_index_form, index_of, is_well_escaped, member, push_escaped,
 };
-use jzon::{JsonValue, io_error};
-use std::alloc::AllocError;
-use std::io::ErrorKind;
-use std::{fmt, io};
+use jzon::JsonValue;
+use std::alloc::{AllocError, Global};
+use std::fmt;
 
 /// Why a pointer names nothing in a value, or why nothing could be inserted there.
 #[derive(Clone, Copy, Debug, PartialEq, Eq)]
@@ -35,8 +33,6 @@ pub enum PointerError {
     },
     /// The empty text names the whole value, which is in no array and no object.
     WholeValue,
-    /// An allocation failed.
-    OutOfMemory,
 }
 
 /// Why a token names nothing.
@@ -63,81 +59,6 @@ pub enum Primitive {
     String,
 }
 
-impl PointerError {
-    /// The error of this pointer, to be shown: `/server/port: /server is a number and has no
-    /// members`.
-    ///
-    /// ```rust
-    /// if let Err(error) = jzon_pointer::find(&config, "/servers/2/port") {
-    ///     let words = format!(in alloc; "{}", error.in_pointer("/servers/2/port"))?;
-    ///     assert_eq!(rt; words.as_str(), "/servers/2/port: /servers has 2 elements");
-    /// }
-    /// ```
-    pub fn in_pointer(self, pointer: &str) -> InPointer<'_>
-        ensures error { result.error ≡ self }
-        ensures pointer { result.pointer.now ≡ pointer.now }
-    {
-        InPointer {
-            error: self,
-            pointer,
-        }
-    }
-
-    fn io_kind(self) -> ErrorKind
-        ensures { result ≡ pointer_error_kind self }
-    {
-        match self {
-            PointerError::OutOfMemory => ErrorKind::OutOfMemory,
-            _ => ErrorKind::InvalidData,
-        }
-    }
-}
-
-/// A `PointerError` that is shown with its pointer.
-#[derive(Clone, Copy, Debug)]
-pub struct InPointer<'a> {
-    error: PointerError,
-    pointer: &'a str,
-}
-
-/// Why a token names nothing, and what the value is called in which it doesn't.
-#[derive(Clone, Copy)]
-struct Explained<'a> {
-    reason: Reason,
-    parent: &'a str,
-    token: &'a str,
-}
-
-impl fmt::Display for PointerError {
-    ghost output = { λ e. Some (pointer_error_text e) };
-
-    fn fmt<W: fmt::Write>(&self, f: &mut fmt::Formatter<W>) -> fmt::Result {
-        match self {
-            PointerError::NoSlash => f.write_str("The pointer begins with no /"),
-            PointerError::Missing { start, reason, .. } => {
-                write!(f, "At byte {start} of the pointer: {reason}")
-            }
-            PointerError::WholeValue => f.write_str("The pointer names the whole value"),
-            PointerError::OutOfMemory => f.write_str("Out of memory"),
-        }
-    }
-}
-
-impl fmt::Display for Reason {
-    ghost output = { λ r. Some (reason_text r) };
-
-    fn fmt<W: fmt::Write>(&self, f: &mut fmt::Formatter<W>) -> fmt::Result {
-        match self {
-            Reason::BadEscape => f.write_str("~ without 0 or 1 after it"),
-            Reason::NoMember => f.write_str("no such key"),
-            Reason::NotAnIndex => f.write_str("not an index of an array"),
-            Reason::OutOfRange { length: 1 } => f.write_str("the array has 1 element"),
-            Reason::OutOfRange { length } => write!(f, "the array has {length} elements"),
-            Reason::NoChildren(found) => write!(f, "{found} has no members"),
-        }
-    }
-}
-
 impl fmt::Display for Primitive {
     ghost output = { λ p. Some (primitive_text p) };
 
@@ -151,45 +72,8 @@ impl fmt::Display for Primitive {
     }
 }
 
-impl fmt::Display for InPointer<'_> {
-    ghost output = { λ e. Some (pointed_text e.error e.pointer.now) };
-
-    fn fmt<W: fmt::Write>(&self, f: &mut fmt::Formatter<W>) -> fmt::Result {
-        let pointer = ShownPointer(self.pointer);
-        match self.error {
-            PointerError::NoSlash => write!(f, "{pointer}: a pointer begins with /"),
-            PointerError::Missing { start, end, reason } => {
-                let why = Explained {
-                    reason,
-                    parent: parent(self.pointer, start),
-                    token: token(self.pointer, start, end),
-                };
-                write!(f, "{pointer}: {why}")
-            }
-            error => write!(f, "{error}"),
-        }
-    }
-}
-
-impl fmt::Display for Explained<'_> {
-    ghost output = { λ e. Some (explained e.reason e.parent.now e.token.now) };
-
-    fn fmt<W: fmt::Write>(&self, f: &mut fmt::Formatter<W>) -> fmt::Result {
-        let parent = ShownPointer(self.parent);
-        let token = ShownToken(self.token);
-        match self.reason {
-            Reason::BadEscape => f.write_str("~ without 0 or 1 after it"),
-            Reason::NoMember => write!(f, "{parent} has no key \"{token}\""),
-            Reason::NotAnIndex => write!(f, "{parent} is an array, and \"{token}\" is no index"),
-            Reason::OutOfRange { length: 1 } => write!(f, "{parent} has 1 element"),
-            Reason::OutOfRange { length } => write!(f, "{parent} has {length} elements"),
-            Reason::NoChildren(found) => write!(f, "{parent} is {found} and has no members"),
-        }
-    }
-}
-
 /// What the value is called in which the token that begins here names nothing.
-fn parent(pointer: &str, start: usize) -> &str
+pub(crate) fn parent(pointer: &str, start: usize) -> &str
     ensures { result.now ≡ parent_text pointer.now start }
 {
     let (before, _slash) = parts(pointer, start.saturating_sub(1));
@@ -200,7 +84,7 @@ fn parent(pointer: &str, start: usize) -> &str
 }
 
 /// The token between these bytes.
-fn token(pointer: &str, start: usize, end: usize) -> &str
+pub(crate) fn token(pointer: &str, start: usize, end: usize) -> &str
     ensures { result.now ≡ token_text pointer.now start end }
 {
     let (_before, from_start) = parts(pointer, start);
@@ -219,27 +103,6 @@ fn parts(text: &str, at: usize) -> (&str, &str)
     }
 }
 
-impl std::error::Error for PointerError {}
-
-/// So that `?` works in a `main` that returns an `io::Result`. The kind is `OutOfMemory`, or else
-/// `InvalidData`.
-impl From<PointerError> for io::Error {
-    ghost from_gives = { λ e i. error_kind i ≡ pointer_error_kind e };
-
-    fn from(error: PointerError) -> io::Error {
-        io_error(error.io_kind(), &error)
-    }
-}
-
-/// As from a `PointerError`. After 80 bytes the message is cut.
-impl From<InPointer<'_>> for io::Error {
-    ghost from_gives = { λ e i. error_kind i ≡ pointer_error_kind e.error };
-
-    fn from(shown: InPointer<'_>) -> io::Error {
-        io_error(shown.error.io_kind(), &shown)
-    }
-}
-
 /// The value that a pointer names.
 ///
 /// ```rust
@@ -249,12 +112,30 @@ pub fn get<'a>(value: &'a JsonValue, path: &str) -> Option<&'a JsonValue>
     ensures { option_map (λ v. view v.now) result
         ≡ result_ok (value_at (view value.now) path.now) }
 {
-    find(value, path).ok()
+    seek(value, path).ok()
 }
 
-/// The value that a pointer names, or the first token that names nothing, and why.
+/// The value that a pointer names, or an error, which says the first token that names nothing, and why.
+///
+/// ```rust
+/// if let Err(error) = jzon_pointer::find(alloc, &config, "/servers/2/port") {
+///     let words = format!(in alloc; "{error}")?;
+///     assert_eq!(rt; words.as_str(), "/servers/2/port: /servers has 2 elements");
+/// }
+/// ```
+pub fn find<'a>(alloc: Global, value: &'a JsonValue, path: &str) -> Result<&'a JsonValue, Error>
+    ensures found { IfOk result (λ v. value_at (view value.now) path.now ≡ Ok (view v.now)) }
+    ensures error { IfErr result (IsLost (value_at (view value.now) path.now) path.now) }
+{
+    match seek(value, path) {
+        Ok(found) => Ok(found),
+        Err(lost) => Err(Error::at_pointer(alloc, path, What::Pointer(lost))),
+    }
+}
+
+/// The same without an allocation: the error doesn't own the pointer.
 #[tactic(auto, using(crate::proofs::PlaceSteps::placing))]
-pub fn find<'a>(value: &'a JsonValue, path: &str) -> Result<&'a JsonValue, PointerError>
+pub fn seek<'a>(value: &'a JsonValue, path: &str) -> Result<&'a JsonValue, PointerError>
     ensures found { IfOk result (λ v. value_at (view value.now) path.now ≡ Ok (view v.now)) }
     ensures error { IfErr result (λ e. value_at (view value.now) path.now ≡ Err e) }
 {

@@ -1,16 +1,18 @@
 //! Texts of an error, for a person: one line, whatever a stranger sent, and no longer than a few
 //! hundred characters of each text.
 
-ghost use Rattle.std.specs.Prelude.{◌≡◌, ◌<◌, Some, map, true};
+ghost use Rattle.std.specs.Prelude.{◌≡◌, ◌<◌, ◌≤◌, Some, chars, false, length, map, nat_le, true, ◌&&◌};
 ghost use Rattle.std.specs.Char.{digit_char};
 ghost use Rattle.std.specs.Fmt.{WritesOnOk};
-ghost use Rattle.jzon_pointer.specs.Shown.{byte_text, cut_text, escape_text, is_hidden, names_text, others_text, piece, place_text, pointer_shown, shown_char, shown_text, text_error_text, token_shown};
+ghost use Rattle.std.specs.List.{list_all};
+ghost use Rattle.jzon_pointer.specs.Shown.{byte_text, cut_text, escape_text, is_hidden, is_seen, is_tag, name_shown, names_text, others_text, piece, place_text, pointer_shown, shown_char, shown_text, tag_text, text_error_text, token_shown, widest, words_shown};
 
 use jzon::{Error, LocatedError};
 use std::fmt;
 
 /// A pointer in a message: characters that aren't seen, or turn the line, are escaped as in JSON, and
-/// of more than 200 characters the first and the last 100 are shown, with `..` between them.
+/// of a pointer of more than 200 bytes the middle is left out, with `..` for it: the first and the last
+/// 100 characters are shown, or as many as take 100 bytes if each were as wide as the widest.
 ///
 /// ```rust
 /// let shown = format!(in alloc; "{}", ShownPointer(path))?;
@@ -26,7 +28,7 @@ impl fmt::Display for ShownPointer<'_> {
     }
 }
 
-/// A token or a key in a message: escaped as a pointer is, and after 40 characters `..`.
+/// A token or a key in a message: escaped as a pointer is, and after 40 characters, or 240 bytes, `..`.
 #[derive(Clone, Copy)]
 pub struct ShownToken<'a>(pub &'a str);
 
@@ -34,15 +36,76 @@ impl fmt::Display for ShownToken<'_> {
     ghost output = { λ t. Some (token_shown t.0.now) };
 
     fn fmt<W: fmt::Write>(&self, f: &mut fmt::Formatter<W>) -> fmt::Result {
-        show_cut(f, self.0, 40, 0)
+        let room = 240 / widest(self.0);
+        show_cut(f, self.0, room.min(40), 0)
     }
+}
+
+/// The words of a program in a message: as they are, or, if there are more than 200 bytes or a character
+/// isn't seen, escaped as a pointer is, and after 200 bytes `..`.
+#[derive(Clone, Copy)]
+pub struct ShownWords<'a>(pub &'a str);
+
+impl fmt::Display for ShownWords<'_> {
+    ghost output = { λ t. Some (words_shown t.0.now) };
+
+    fn fmt<W: fmt::Write>(&self, f: &mut fmt::Formatter<W>) -> fmt::Result {
+        if is_line(self.0) {
+            return f.write_str(self.0);
+        }
+        show_cut(f, self.0, 200 / widest(self.0), 0)
+    }
+}
+
+/// Whether a text has at most 200 bytes, and each character is seen.
+fn is_line(text: &str) -> bool
+    ensures { result ≡ (nat_le (length text.now) 200 && list_all is_seen (chars text.now)) }
+{
+    text.len() <= 200 && are_seen(text)
+}
+
+fn are_seen(text: &str) -> bool
+    ensures { result ≡ list_all is_seen (chars text.now) }
+{
+    text.chars().all(|ch| is_seen(ch))
+}
+
+fn is_seen(ch: char) -> bool
+    ensures { result ≡ is_seen ch }
+{
+    !is_hidden(ch) && !is_tag(ch)
 }
 
 /// A pointer, as `ShownPointer` shows it.
 pub fn show_pointer<W: fmt::Write>(f: &mut fmt::Formatter<W>, pointer: &str) -> fmt::Result
     ensures { WritesOnOk W.write_str_gives f.old result (pointer_shown pointer.now) f.new }
 {
-    show_cut(f, pointer, 100, 100)
+    let each = 100 / widest(pointer);
+    show_cut(f, pointer, each, each)
+}
+
+/// How many bytes the widest character of a text takes where it is shown: at least 1.
+fn widest(text: &str) -> usize
+    ensures widest { result ≡ widest (chars text.now) }
+    ensures some { 1 ≤ result }
+{
+    let mut most = 1usize;
+    for ch in text.chars() {
+        most = most.max(width(ch));
+    }
+    most
+}
+
+/// How many bytes a character takes where it is shown.
+fn width(ch: char) -> usize
+    ensures { result ≡ length (shown_char ch) }
+{
+    match ch {
+        '"' | '\\' | '\n' | '\r' | '\t' => 2,
+        _ if is_hidden(ch) => 6,
+        _ if is_tag(ch) => 12,
+        _ => ch.len_utf8(),
+    }
 }
 
 /// The first `front` and the last `back` characters of a text, escaped, with dots between them if
@@ -123,7 +186,7 @@ pub fn show_text<W: fmt::Write>(f: &mut fmt::Formatter<W>, text: &str) -> fmt::R
     Ok(())
 }
 
-fn show_char<W: fmt::Write>(f: &mut fmt::Formatter<W>, ch: char) -> fmt::Result
+pub(crate) fn show_char<W: fmt::Write>(f: &mut fmt::Formatter<W>, ch: char) -> fmt::Result
     ensures { WritesOnOk W.write_str_gives f.old result (shown_char ch) f.new }
 {
     match ch {
@@ -133,12 +196,13 @@ fn show_char<W: fmt::Write>(f: &mut fmt::Formatter<W>, ch: char) -> fmt::Result
         '\r' => f.write_str("\\r"),
         '\t' => f.write_str("\\t"),
         _ if is_hidden(ch) => show_escape(f, u32::from(ch)),
+        _ if is_tag(ch) => show_tag(f, u32::from(ch)),
         _ => f.write_char(ch),
     }
 }
 
-/// Whether a character is shown by its escape.
-fn is_hidden(ch: char) -> bool
+/// Whether a character is shown by its escape, since it turns the line, or isn't seen.
+pub fn is_hidden(ch: char) -> bool
     ensures hidden { result ≡ is_hidden ch }
     ensures small { result ≡ true → ch < 65536 }
 {
@@ -148,6 +212,25 @@ fn is_hidden(ch: char) -> bool
         '\u{2060}'..='\u{206f}' | '\u{feff}' => true,
         _ => false,
     }
+}
+
+/// Whether a character is a tag (U+E0000 to U+E007F), which isn't seen either.
+fn is_tag(ch: char) -> bool
+    ensures tag { result ≡ is_tag ch }
+    ensures above { result ≡ true → 917504 ≤ ch }
+    ensures below { result ≡ true → ch < 917632 }
+{
+    matches!(ch, '\u{e0000}'..='\u{e007f}')
+}
+
+/// The two surrogates of a tag.
+fn show_tag<W: fmt::Write>(f: &mut fmt::Formatter<W>, code: u32) -> fmt::Result
+    requires above { 917504 ≤ code }
+    requires below { code < 917632 }
+    ensures { WritesOnOk W.write_str_gives f.old result (tag_text code) f.new }
+{
+    show_escape(f, 0xdb40)?;
+    show_escape(f, code - 917_504 + 0xdc00)
 }
 
 fn show_escape<W: fmt::Write>(f: &mut fmt::Formatter<W>, code: u32) -> fmt::Result
@@ -174,7 +257,7 @@ fn hex_digit(digit: u32) -> char
     char::from_digit(digit, 16).unwrap_or('0')
 }
 
-/// The names, with commas between them.
+/// Names of a program: the first eight, with commas between them, and `..` for others.
 pub fn show_names<W: fmt::Write>(f: &mut fmt::Formatter<W>, names: &[&str]) -> fmt::Result
     ensures { WritesOnOk W.write_str_gives f.old result
         (names_text (map (λ n. n.now) names.now)) f.new }
@@ -182,16 +265,33 @@ pub fn show_names<W: fmt::Write>(f: &mut fmt::Formatter<W>, names: &[&str]) -> f
     let Some((first, others)) = names.split_first() else {
         return f.write_str("none");
     };
-    f.write_str(*first)?;
-    show_others(f, others)
+    write!(f, "{}", ShownName(*first))?;
+    if others.len() <= 7 {
+        return show_others(f, others);
+    }
+    show_others(f, &others[..7])?;
+    f.write_str(", ..")
 }
 
+/// Each name after a comma.
 fn show_others<W: fmt::Write>(f: &mut fmt::Formatter<W>, names: &[&str]) -> fmt::Result
     ensures { WritesOnOk W.write_str_gives f.old result
         (others_text (map (λ n. n.now) names.now)) f.new }
 {
     for name in names {
-        write!(f, ", {name}")?;
+        write!(f, ", {}", ShownName(*name))?;
     }
     Ok(())
+}
+
+/// A known key, of which 40 bytes are shown.
+#[derive(Clone, Copy)]
+struct ShownName<'a>(&'a str);
+
+impl fmt::Display for ShownName<'_> {
+    ghost output = { λ t. Some (name_shown t.0.now) };
+
+    fn fmt<W: fmt::Write>(&self, f: &mut fmt::Formatter<W>) -> fmt::Result {
+        show_cut(f, self.0, 40 / widest(self.0), 0)
+    }
 }

@@ -1,9 +1,8 @@
 //! The reference tokens of a pointer's text (RFC 6901, sections 3 and 4).
 //!
 //! A token is kept as it is written. Where it has no `~`, it is the key itself, and the object's index
-//! finds it. A token with an escape is decoded first, on the stack, so that nothing is allocated. One
-//! that means a key of more than `DECODED_MAX` bytes is compared with each key in turn: so it takes
-//! time for all keys, but not more often than once for so many bytes of a pointer.
+//! finds it. A token with an escape is decoded first: on the stack, so that nothing is allocated, or, to
+//! a key of more than `DECODED_MAX` bytes, in memory of the object's allocator.
 
 ghost use Rattle.std.specs.Prelude.{◌≡◌, ◌&&◌, ◌==◌, ◌<◌, ◌≤◌, ◌+◌, ◌∷◌, ◌++◌, nat_lt, suc, true, false, if◌then◌else◌, MatchOption, OnOk, OnErr, length, drop, slice_index, option_map, option_and_then, IfOk, IfErr, IfSome, string_bytes, None, Some};
 ghost use Rattle.std.specs.Char.{is_ascii_digit};
@@ -124,7 +123,19 @@ fn position_decoded(object: &Object, token: &str) -> Option<usize>
     match decoded(token) {
         Some(Some(key)) => object.get_index_of(key.as_str()),
         Some(None) => None,
-        None => position_compared(object, token),
+        None => position_of_long(object, token),
+    }
+}
+
+/// The same of a key that doesn't fit there, in memory of the object's allocator, or without it if it
+/// is refused.
+fn position_of_long(object: &Object, token: &str) -> Option<usize>
+    ensures { result ≡ position (names token.now) (keys_of (entries_of object.now)) }
+{
+    match key_of(object.allocator(), token) {
+        Ok(Some(key)) => object.get_index_of(key.as_str()),
+        Ok(None) => None,
+        Err(_refused) => position_compared(object, token),
     }
 }
 
@@ -173,7 +184,7 @@ pub fn is_plain(token: &str) -> bool
 }
 
 /// Whether a token names this key.
-fn is_name(token: &str, key: &str) -> bool
+pub fn is_name(token: &str, key: &str) -> bool
     ensures { result ≡ names token.now key.now }
 {
     let token = token.as_bytes();

@@ -1,23 +1,24 @@
 -- Two values are equal if and only if their canonical texts are.
-use Rattle.std.proofs.Common.{◌≡◌, ◌==◌, pos, ℕ, List, length, Bool, true, false, cond, Option, None, Some, option_map}
-use Rattle.std.proofs.Common.{refl, sym, ap, ◌∙◌, IsUtf8, nat_le}
+use Rattle.std.proofs.Common.{◌≡◌, ◌==◌, pos, ℕ, List, Bool, true, false, cond, Option, None, Some, option_map}
+use Rattle.std.proofs.Common.{refl, sym, ap, ◌∙◌, IsUtf8}
 use Rattle.std.specs.List.{AllByRecursion, IsDistinct}
 use Rattle.std.proofs.lemmas.Bool.{and_from}
-use Rattle.std.proofs.lemmas.Bool.{leb-true}
 use Rattle.std.proofs.lemmas.Slice.Eq.{bytes_eq-Decides}
 use Rattle.std.proofs.lemmas.Map.Made.{AllPairs-from_IsDistinct}
 use Rattle.std.specs.Str.{bytes_eq}
 use Rattle.jzon.specs.Decimal.{Decimal, nan, parts}
 use Rattle.jzon.specs.PairList.{keys_of}
 use Rattle.jzon.specs.Value.{Value, null, boolean, text, number, array, object, Values, no_values, value, ValuePairs}
-use Rattle.jzon.specs.Value.{no_pairs, pair, list_of_pairs, Kind, short, long}
+use Rattle.jzon.specs.Value.{no_pairs, pair, list_of_pairs}
 use Rattle.jzon.specs.Meaning.{meaning}
 use Rattle.jzon.specs.SortedStyle.{is_before}
 use Rattle.jzon.specs.Text.{compact}
-use Rattle.jzon.specs.Lawful.{IsValue, AreValues, ArePairs, IsText, HasNoNan, HaveNoNan, PairsHaveNoNan, IsNumber}
+use Rattle.jzon.specs.Lawful.{IsValue, AreValues, ArePairs, HasNoNan, HaveNoNan, PairsHaveNoNan, IsNumber}
 use Rattle.jzon.specs.Same.{same, same_items}
 use Rattle.jzon.specs.SameLaws.{same_at, object-intro, at, same_equiv}
+use Rattle.jzon.proofs.ValueLaws.{IsValue-text}
 use Rattle.jzon.proofs.PairLaws.{All-found}
+use Rattle.jzon.proofs.PrintedUtf8.{text_utf8}
 use Rattle.jzon_tools.specs.Canonical.{arranged, arranged_values, arranged_pairs, put_sorted, normal_number, stripped}
 use Rattle.jzon_tools.specs.Canonical.{normal_leaf, CanonicalLaw, OneTextLaw}
 use Rattle.jzon_tools.proofs.CompactTexts.{one_value}
@@ -60,14 +61,6 @@ mutual
 
 -- ---- the form is a value too
 
-utf8_in : (k : Kind) (s : List ℕ) → IsText k s → IsUtf8 s
-utf8_in short s t = t.0
-utf8_in long s t = t
-
-text_kind : (s : List ℕ) → IsUtf8 s → (b : Bool) → nat_le (length s) 30 ≡ b → IsText (cond b short long) s
-text_kind s u true e = (u, leb-true (length s) 30 e)
-text_kind s u false e = u
-
 pairs_put : (k : List ℕ) (v : Value) (ps : ValuePairs) → IsUtf8 k → IsValue v → ArePairs ps
     → ArePairs (put_sorted k v ps)
 pairs_put k v no_pairs u iv all = (u, iv, tt)
@@ -102,7 +95,7 @@ mutual
   value_normal : (v : Value) → IsValue v → IsValue (N v)
   value_normal null iv = tt
   value_normal (boolean b) iv = tt
-  value_normal (text k s) iv = text_kind s (utf8_in k s iv) (nat_le (length s) 30) refl
+  value_normal (text k s) iv = IsValue-text s (text_utf8 k s iv)
   value_normal (number n) iv = (form_of n iv).in_range
   value_normal (array vs) iv = values_normal vs iv
   value_normal (object ps) iv = (

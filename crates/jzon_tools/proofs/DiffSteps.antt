@@ -503,12 +503,12 @@ all-pending [] k = refl
 all-pending (p ∷ ps) k = among-by (bytes_eq p.0 k) (is_among (keys_of ps) k) (find k ps) p.1 (all-pending ps k)
 
 -- a key is apart from those after it
-not_again_by : (key : List ℕ) (rest : List (List ℕ)) → AllByRecursion (λ j. bytes_eq key j ≡ false) rest
+pub not_again_by : (key : List ℕ) (rest : List (List ℕ)) → AllByRecursion (λ j. bytes_eq key j ≡ false) rest
     → is_among rest key ≡ false
 not_again_by key [] h = refl
 not_again_by key (j ∷ js) h = rw (apart-sym key j h.0) (not_again_by key js h.1)
 
-or-false : (b c : Bool) → (b || c) ≡ false → (b ≡ false) × (c ≡ false)
+pub or-false : (b c : Bool) → (b || c) ≡ false → (b ≡ false) × (c ≡ false)
 or-false true c h = absurd (false≢true (sym h))
 or-false false c h = (refl, h)
 
@@ -516,11 +516,11 @@ or-true : (b c : Bool) → (b || c) ≡ true → (b ≡ false → c ≡ true)
 or-true true c h g = absurd (false≢true (sym g))
 or-true false c h g = h
 
-or-left : (b c : Bool) → b ≡ true → (b || c) ≡ true
+pub or-left : (b c : Bool) → b ≡ true → (b || c) ≡ true
 or-left true c h = refl
 or-left false c h = absurd (false≢true h)
 
-or-right : (b c : Bool) → c ≡ true → (b || c) ≡ true
+pub or-right : (b c : Bool) → c ≡ true → (b || c) ≡ true
 or-right true c h = refl
 or-right false c h = h
 
@@ -532,7 +532,7 @@ both : (b c : Bool) → b ≡ true → c ≡ true → (b && c) ≡ true
 both true c h g = g
 both false c h g = absurd (false≢true h)
 
-here : (key : List ℕ) → bytes_eq key key ≡ true
+pub here : (key : List ℕ) → bytes_eq key key ≡ true
 here key = (bytes_eq-Decides key key).1 refl
 
 not-false : (b : Bool) → b ≡ true → not b ≡ false
@@ -631,7 +631,7 @@ none-here : (o : Option Value) → not (is_some o) ≡ true → o ≡ None
 none-here None h = refl
 none-here (Some v) h = absurd (false≢true h)
 
-unknown : (new : Pairs) (k : List ℕ) → is_among (keys_of new) k ≡ false → find k new ≡ None
+pub unknown : (new : Pairs) (k : List ℕ) → is_among (keys_of new) k ≡ false → find k new ≡ None
 unknown [] k h = refl
 unknown (p ∷ ps) k h =
     let parts = or-false (bytes_eq p.0 k) (is_among (keys_of ps) k) h in rw parts.0 (unknown ps k parts.1)

@@ -1,15 +1,15 @@
 -- Equal normal numbers are identical.
-use Rattle.std.proofs.Common.{◌≡◌, ◌≤◌, ◌<◌, ℕ, ◌+◌, ◌*◌, ◌^◌, ◌-◌, ◌%◌, ◌/◌, ◌==◌, ◌&&◌, ℤ, pos, negsuc}
+use Rattle.std.proofs.Common.{◌≡◌, ◌≤◌, ◌<◌, ℕ, ◌+◌, ◌*◌, ◌^◌, ◌-◌, ◌%◌, ◌==◌, ◌&&◌, ℤ, pos, negsuc}
 use Rattle.std.proofs.Common.{Bool, true, IsTrue, refl, sym, ap, ◌∙◌, arith, FitsSigned, w16, ◌⊎◌, inl, inr}
 use Rattle.std.proofs.lemmas.Int.{ints}
 use Rattle.std.proofs.lemmas.Bool.{eqb-true, false≢true, and_parts, or_cases, cases_order}
-use Rattle.std.proofs.Math.Nat.{mul-mod_left, mul-div_cancel, one-le-pow, zero-mul, eq-zero-or-pos}
-use Rattle.std.proofs.Math.Dec.{lit≤}
+use Rattle.std.proofs.Math.Nat.{mul-mod_left, zero-mul, eq-zero-or-pos}
 use Rattle.std.proofs.lemmas.Nat.{pow-add}
 use Rattle.std.specs.Bool.{beq}
 use Rattle.std.specs.Cmp.{booleans_Decides}
 use Rattle.jzon.specs.Decimal.{Decimal, nan, parts, shifted, scaled, same_decimal}
 use Rattle.jzon.specs.Lawful.{InRange}
+use Rattle.jzon.proofs.Powers.{cancel, power_pos}
 
 -- a zero is +0, and no other mantissa ends in a zero unless the exponent is the largest
 abbrev pub IsNormal : Decimal → Type 0
@@ -17,17 +17,11 @@ IsNormal nan = Unit {0}
 IsNormal (parts p m e) = (m ≡ 0 → (p ≡ true) × (e ≡ pos 0)) × (0 < m → m % 10 ≡ 0 → e ≡ pos 32767)
 
 -- ---- products with powers of ten
-pub power-positive : (a : ℕ) → 0 < 10 ^ a
-power-positive a = one-le-pow a 10 (lit≤ tt)
-
 regroup : (n x y : ℕ) → n * (x * y) ≡ n * y * x
 regroup n x y = omega arith
 
 regroup_ten : (n t : ℕ) → n * (t * 10 ^ 1) ≡ n * t * 10
 regroup_ten n t = omega arith
-
-cancel : (x y t : ℕ) → 0 < t → x * t ≡ y * t → x ≡ y
-cancel x y t p e = sym (mul-div_cancel x p) ∙ ap (λ z. z / t) e ∙ mul-div_cancel y p
 
 zero_factor : (n t : ℕ) → 0 < t → 0 ≡ n * t → n ≡ 0
 zero_factor n t p e = sym (cancel 0 n t p (zero-mul t ∙ e))
@@ -35,7 +29,7 @@ zero_factor n t p e = sym (cancel 0 n t p (zero-mul t ∙ e))
 -- the smaller power taken from both sides
 lowered : (m n a k : ℕ) → m * 10 ^ a ≡ n * 10 ^ (a + k) → m ≡ n * 10 ^ k
 lowered m n a k e =
-    cancel m (n * 10 ^ k) (10 ^ a) (power-positive a)
+    cancel m (n * 10 ^ k) (10 ^ a) (power_pos a)
     (e ∙ ap (λ t. n * t) (pow-add 10 a k) ∙ regroup n (10 ^ a) (10 ^ k))
 
 ends_in_zero : (m n k : ℕ) → m ≡ n * 10 ^ (k + 1) → m % 10 ≡ 0
@@ -74,7 +68,7 @@ same_parts m n e f sm sn fe ff nm nn h a b ea eb (inr (inr lt)) =
     absurd (not_lower n m f e sn fe nn (sym h) (omega arith))
 same_parts m n e f sm sn fe ff nm nn h a b ea eb (inl eq) =
     let s : shifted e ≡ shifted f = sym ea ∙ eq ∙ eb in (
-      cancel m n (10 ^ shifted f) (power-positive (shifted f)) (ap (λ t. m * 10 ^ t) (sym s) ∙ h),
+      cancel m n (10 ^ shifted f) (power_pos (shifted f)) (ap (λ t. m * 10 ^ t) (sym s) ∙ h),
       same_exponent e f fe ff s,
     )
 
@@ -92,11 +86,11 @@ same_scaled : (p q : Bool) (m n : ℕ) (e f : ℤ) → InRange (parts p m e) →
 same_scaled p q m n e f rd rc nd nc signs h (inl zm) _ =
     let none : 0 ≡ n * 10 ^ shifted f =
     sym (zero-mul (10 ^ shifted e)) ∙ ap (λ t. t * 10 ^ shifted e) (sym zm) ∙ h in
-    both_zero p q m n e f zm (zero_factor n (10 ^ shifted f) (power-positive (shifted f)) none) nd nc
+    both_zero p q m n e f zm (zero_factor n (10 ^ shifted f) (power_pos (shifted f)) none) nd nc
 same_scaled p q m n e f rd rc nd nc signs h (inr sm) (inl zn) =
     let none : 0 ≡ m * 10 ^ shifted e =
     sym (zero-mul (10 ^ shifted f)) ∙ ap (λ t. t * 10 ^ shifted f) (sym zn) ∙ sym h in
-    both_zero p q m n e f (zero_factor m (10 ^ shifted e) (power-positive (shifted e)) none) zn nd nc
+    both_zero p q m n e f (zero_factor m (10 ^ shifted e) (power_pos (shifted e)) none) zn nd nc
 same_scaled p q m n e f rd rc nd nc signs h (inr sm) (inr sn) =
     let (em, ee) = same_parts m n e f sm sn rd.1 rc.1 nd.1 nc.1 h (shifted e) (shifted f) refl refl
     (cases_order (shifted e) (shifted f)) in

@@ -8,7 +8,7 @@ use Rattle.std.specs.Borrow.{Bor}
 use Rattle.std.specs.List.{AllByRecursion, IsDistinct}
 use Rattle.std.specs.List.Sorted.{IsStrictlySortedBy}
 use Rattle.std.specs.Str.{bytes_eq}
-use Rattle.std.specs.Cmp.Lexicographic.{slice_cmp}
+use Rattle.std.specs.Cmp.Lexicographic.{nat_list_eq_equiv, slice_cmp}
 use Rattle.std.specs.Ordering.{nat_cmp, is_lt}
 use Rattle.std.proofs.lemmas.Option.{none-some, same_Some, slice_get-get_or}
 use Rattle.std.proofs.lemmas.Slice.Eq.{bytes_eq-Decides}
@@ -33,13 +33,6 @@ use Rattle.jzon_tools.proofs.SortedEntries.{before-trans, before-other, before-a
 use Rattle.jzon_tools.proofs.SortedEntries.{Distinct}
 
 -- ---- the look-ups of entries in another order
-flips : (j k : List ℕ) → bytes_eq j k ≡ bytes_eq k j
-flips j k = pick (bytes_eq j k) refl
-  where
-    pick : (b : Bool) → bytes_eq j k ≡ b → bytes_eq j k ≡ bytes_eq k j
-    pick true e = e ∙ sym ((bytes_eq-Decides k j).1 (sym ((bytes_eq-Decides j k).0 e)))
-    pick false e = e ∙ sym (apart-sym j k e)
-
 module _ {V : Type 0} where
   Contains-found : (k : List ℕ) (v : V) (ps : List (List ℕ × V)) → find k ps ≡ Some v → Contains ps (k, v)
   Contains-found k v [] e = absurd (none-some v e)
@@ -89,7 +82,7 @@ module _ {V : Type 0} where
   pub distinct-permutation : (ps qs : List (List ℕ × V)) → IsPermutation ps qs → IsDistinct bytes_eq (keys_of ps)
       → IsDistinct bytes_eq (keys_of qs)
   distinct-permutation ps qs same distinct =
-      IsDistinct-IsPermutation bytes_eq flips (keys_of ps) (keys_of qs)
+      IsDistinct-IsPermutation bytes_eq nat_list_eq_equiv.symm (keys_of ps) (keys_of qs)
       (IsPermutation-map (λ (p : List ℕ × V). p.0) ps qs same) distinct
 
 -- ---- what std sorted

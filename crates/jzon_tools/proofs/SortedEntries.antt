@@ -8,7 +8,7 @@ use Rattle.std.proofs.lemmas.Slice.Eq.{bytes_eq-Decides}
 use Rattle.std.proofs.lemmas.Cmp.{nat_list_cmp_total}
 use Rattle.std.proofs.lemmas.Map.Text.{is_eq-slice_cmp}
 use Rattle.std.specs.Str.{bytes_eq}
-use Rattle.std.specs.Cmp.Lexicographic.{slice_cmp}
+use Rattle.std.specs.Cmp.Lexicographic.{nat_list_eq_equiv, slice_cmp}
 use Rattle.std.specs.Ordering.{nat_cmp, is_lt, is_eq, ordering_reverse}
 use Rattle.jzon.specs.PairList.{find, keys_of, cut}
 use Rattle.jzon.specs.SameLaws.{at, find-head, find-past}
@@ -38,11 +38,7 @@ before-other k j Equal e h d = absurd (false≢true (sym d ∙ sym (is_eq-slice_
 before-other k j Greater e h d = ap is_lt (nat_list_cmp_total.antisymm j k ∙ ap ordering_reverse e)
 
 pub apart-sym : (j k : List ℕ) → bytes_eq j k ≡ false → bytes_eq k j ≡ false
-apart-sym j k h = pick (bytes_eq k j) refl
-  where
-    pick : (b : Bool) → bytes_eq k j ≡ b → bytes_eq k j ≡ false
-    pick true e = absurd (false≢true (sym h ∙ (bytes_eq-Decides j k).1 (sym ((bytes_eq-Decides k j).0 e))))
-    pick false e = e
+apart-sym j k h = nat_list_eq_equiv.symm k j ∙ h
 
 three_ways : (k l : List ℕ) → (o : Ordering) → slice_cmp nat_cmp k l ≡ o
     → (is_before k l ≡ true) ⊎ ((is_before l k ≡ true) ⊎ (k ≡ l))

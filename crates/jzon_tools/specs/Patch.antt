@@ -10,10 +10,16 @@ use Rattle.jzon.specs.Readers.{entries, is_object, text_in}
 use Rattle.jzon.specs.Same.{same}
 use Rattle.jzon.specs.Value.{Value, array, Values, no_values, value, nest}
 use Rattle.jzon_pointer.specs.Pointer.{value_at, entry_at, inserted_at, removed_at, updated_at, slashes}
+use Rattle.jzon_pointer.specs.Errors.{memory, what_of, SaysOrMemory}
+use Rattle.jzon_pointer.specs.declared.error.Error.{Error}
+use Rattle.jzon_pointer.specs.declared.error.What.TheVariants as what
+use Rattle.jzon_pointer.specs.declared.error.parts.Cause.TheVariants.{NotAnArray, NotAnObject, Missing, NotAString, UnknownOp}
+use Rattle.jzon_pointer.specs.declared.error.parts.Cause.TheVariants.{TestFailed, IntoItself, TooDeep, TooLarge}
+use Rattle.jzon_pointer.specs.declared.error.parts.Member.{Member}
+use Rattle.jzon_pointer.specs.declared.error.parts.Member.TheVariants as member
 use Rattle.jzon_tools.specs.Weight.{weight}
-use Rattle.jzon_tools.specs.declared.patch.Cause.{Cause}
-use Rattle.jzon_tools.specs.declared.patch.Cause.TheVariants.{NotAnArray, NotAnObject, Missing, NotAString, UnknownOp}
-use Rattle.jzon_tools.specs.declared.patch.Cause.TheVariants.{Pointer, TestFailed, IntoItself, TooDeep, TooLarge, OutOfMemory}
+use Rattle.jzon_tools.specs.declared.patch.Fault.{Fault}
+use Rattle.jzon_tools.specs.declared.patch.Fault.TheVariants.{Pointer, Operation, OutOfMemory}
 use Rattle.jzon_tools.specs.declared.patch.Limits.{Limits}
 use Rattle.jzon_tools.specs.declared.patch.Op.{Op}
 use Rattle.jzon_tools.specs.declared.patch.Op.TheVariants.{Add, Remove, Replace, Move, Copy, Test}
@@ -188,39 +194,50 @@ has_value Replace = true
 has_value Test = true
 has_value _ = false
 
--- k names a pointer of the operation: its `path`, or its `from`
-abbrev pub IsPointer : List ℕ → Value → Type 0
-IsPointer k op = (k ≡ codes "path") ⊎ ((k ≡ codes "from") × (option_map has_from (op_of op) ≡ Some true))
+-- the name of a member
+abbrev pub name_of : Member → List ℕ
+name_of member.Op = codes "op"
+name_of member.Path = codes "path"
+name_of member.From = codes "from"
+name_of member.Value = codes "value"
 
--- k names a member that has to be a string: `op`, or a pointer
-abbrev pub IsText : List ℕ → Value → Type 0
-IsText k op = (k ≡ codes "op") ⊎ IsPointer k op
+-- the member is a pointer of the operation: its `path`, or its `from`
+abbrev pub IsPointer : Member → Value → Type 0
+IsPointer member.Path op = ⊤
+IsPointer member.From op = option_map has_from (op_of op) ≡ Some true
+IsPointer _ op = ⊥
 
--- k names a member that there has to be: such a string, or `value`
-abbrev pub IsNeeded : List ℕ → Value → Type 0
-IsNeeded k op = IsText k op ⊎ ((k ≡ codes "value") × (option_map has_value (op_of op) ≡ Some true))
+-- the member has to be a string: `op`, or a pointer
+abbrev pub IsText : Member → Value → Type 0
+IsText member.Op op = ⊤
+IsText m op = IsPointer m op
+
+-- the member has to be there: such a string, or `value`
+abbrev pub IsNeeded : Member → Value → Type 0
+IsNeeded member.Value op = option_map has_value (op_of op) ≡ Some true
+IsNeeded m op = IsText m op
 
 -- whether an operation's meaning is a move
 abbrev pub is_move : Option Op → Bool
 is_move (Some Move) = true
 is_move _ = false
 
--- the value in which the operation looks up its pointer k, if v is the one before it: v, or for the `path` of a move v
+-- the value in which the operation looks up its pointer m, if v is the one before it: v, or for the `path` of a move v
 -- without what is at `from`
-abbrev pub looked_in : List ℕ → Value → Value → Option Value
-looked_in k op v =
-    if is_move (op_of op) && bytes_eq k (codes "path") then option_and_then (removed_at v) (text_at (codes "from") op)
-    else Some v
+abbrev pub looked_in : Member → Value → Value → Option Value
+looked_in member.Path op v =
+    if is_move (op_of op) then option_and_then (removed_at v) (text_at (codes "from") op) else Some v
+looked_in _ op v = Some v
 
--- the operation's pointer k is this path, and is looked up in u, if v is the value before the operation
-pub record IsLookup (k path : List ℕ) (u op v : Value) : Type 0 where
-  pub pointer : IsPointer k op
-  pub text : text_at k op ≡ Some path
-  pub place : looked_in k op v ≡ Some u
+-- the operation's pointer m is this path, and is looked up in u, if v is the value before the operation
+pub record IsLookup (m : Member) (path : List ℕ) (u op v : Value) : Type 0 where
+  pub pointer : IsPointer m op
+  pub text : text_at (name_of m) op ≡ Some path
+  pub place : looked_in m op v ≡ Some u
 
--- the operation takes away what its pointer k names, which the whole value, at the empty pointer, can't be
-abbrev pub Takes : List ℕ → Value → Type 0
-Takes k op = (op_of op ≡ Some Remove) ⊎ ((op_of op ≡ Some Move) × (k ≡ codes "from"))
+-- the operation takes away what its pointer m names, which the whole value, at the empty pointer, can't be
+abbrev pub Takes : Member → Value → Type 0
+Takes m op = (op_of op ≡ Some Remove) ⊎ ((op_of op ≡ Some Move) × (m ≡ member.From))
 
 -- the operation is a test, and the value x at `path` isn't the wanted one, w
 abbrev pub TestFails : Value → Value → Type 0
@@ -235,38 +252,66 @@ MovesIntoItself op =
     × (text_at (codes "from") op ≡ Some from) × (is_below path from ≡ true)
 
 -- this is why an operation can't be done within limits, if v is the value before it; memory may be refused at any
-abbrev pub IsCause : Cause → Limits → Value → Value → Type 0
-IsCause NotAnArray l op v = ⊥
-IsCause NotAnObject l op v = is_object op ≡ false
-IsCause (Missing name) l op v = IsNeeded name.now op × (find name.now (entries op) ≡ None)
-IsCause (NotAString name) l op v =
-    IsText name.now op × (w : Value) × (find name.now (entries op) ≡ Some w) × (text_in w ≡ None)
-IsCause UnknownOp l op v = (s : List ℕ) × (text_at (codes "op") op ≡ Some s) × (op_named s ≡ None)
-IsCause (Pointer name error) l op v =
-    (path : List ℕ) × (u : Value) × IsLookup name.now path u op v × (entry_at u path ≡ Err error)
-    × (path ≡ [] → Takes name.now op)
-IsCause TestFailed l op v = TestFails op v
-IsCause IntoItself l op v = MovesIntoItself op
-IsCause TooDeep l op v = l.depth < depth_in op v
-IsCause TooLarge l op v = l.copied < copied_in op v
+abbrev pub IsCause : Fault → Limits → Value → Value → Type 0
+IsCause (Operation NotAnArray) l op v = ⊥
+IsCause (Operation NotAnObject) l op v = is_object op ≡ false
+IsCause (Operation (Missing m)) l op v = IsNeeded m op × (find (name_of m) (entries op) ≡ None)
+IsCause (Operation (NotAString m)) l op v =
+    IsText m op × (w : Value) × (find (name_of m) (entries op) ≡ Some w) × (text_in w ≡ None)
+IsCause (Operation UnknownOp) l op v = (s : List ℕ) × (text_at (codes "op") op ≡ Some s) × (op_named s ≡ None)
+IsCause (Operation TestFailed) l op v = TestFails op v
+IsCause (Operation IntoItself) l op v = MovesIntoItself op
+IsCause (Operation TooDeep) l op v = l.depth < depth_in op v
+IsCause (Operation TooLarge) l op v = l.copied < copied_in op v
+IsCause (Pointer m error) l op v =
+    (path : List ℕ) × (u : Value) × IsLookup m path u op v × (entry_at u path ≡ Err error)
+    × (path ≡ [] → Takes m op)
 IsCause OutOfMemory l op v = ⊤
 
--- this is why a patch isn't applied: why its first operation that can't be done isn't, or that it is no array
-abbrev pub IsCauseOf : Option Undone → Cause → Type 0
-IsCauseOf None c = c ≡ NotAnArray
-IsCauseOf (Some u) c = IsCause c u.left u.operation u.before
-
 -- whether it is no fault of the operation: a limit, or that memory was refused
-abbrev pub is_refusal : Cause → Bool
-is_refusal TooDeep = true
-is_refusal TooLarge = true
+abbrev pub is_refusal : Fault → Bool
+is_refusal (Operation TooDeep) = true
+is_refusal (Operation TooLarge) = true
 is_refusal OutOfMemory = true
 is_refusal _ = false
+
+-- ---- what an error says
+
+-- the text of a member, or the empty one
+abbrev pub pointer_in : Member → Value → List ℕ
+pointer_in m op = option_map_or (λ text. text) (text_at (name_of m) op) []
+
+-- The error says the fault of an operation and its number, and has a pointer: the one that leads nowhere, with its
+-- member, or else the operation's `path`.
+abbrev pub Reports : Error → Value → ℕ → Fault → Type 0
+Reports e op n (Pointer m lost) =
+    SaysOrMemory e (Some (what.Pointer lost)) (pointer_in m op) (Some n) (Some m) None
+Reports e op n (Operation c) =
+    SaysOrMemory e (Some (what.Operation c)) (pointer_in member.Path op) (Some n) None None
+Reports e op n OutOfMemory = e ≡ memory
+
+-- the error says that the patch is no array, or a fault of its first operation that can't be done, or an allocation
+-- failed
+abbrev pub SaysWhy : Option Undone → Error → Type 0
+SaysWhy None e = SaysOrMemory e (Some (what.Operation NotAnArray)) [] None None None
+SaysWhy (Some u) e =
+    (fault : Fault) × IsCause fault u.left u.operation u.before × Reports e u.operation u.number fault
+
+-- the error says a fault for which a patch can't be applied at all, or a limit, or an allocation failed
+abbrev pub Refuses : Option Value → Error → Type 0
+Refuses o e =
+    (e ≡ memory) ⊎ ((what_of e ≡ Some (what.Operation TooDeep))
+    ⊎ ((what_of e ≡ Some (what.Operation TooLarge)) ⊎ (o ≡ None)))
+
+-- this is the error of a patch within limits
+pub record IsErrorOf (l : Limits) (patch v : Value) (e : Error) : Type 0 where
+  pub undone : Refuses (applied patch v) e
+  pub why : (e ≡ memory) ⊎ SaysWhy (first_undone l patch v) e
 
 -- ---- what a step returns
 
 -- w is what there is to be, or there is nothing to be; or it was refused
-abbrev pub IsDone : Option Value → Value → Result (Unit {0}) Cause → Type 0
+abbrev pub IsDone : Option Value → Value → Result (Unit {0}) Fault → Type 0
 IsDone o w (Ok _) = o ≡ Some w
 IsDone o w (Err e) = (is_refusal e ≡ true) ⊎ (o ≡ None)
 

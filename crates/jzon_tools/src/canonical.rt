@@ -6,70 +6,33 @@
 //! are those of doubles: where it has `1e+21` and `1e-7`, a canonical text has `1e21` and
 //! `0.0000001`.
 
-ghost use Rattle.std.specs.Prelude.{◌≡◌, ◌↔◌, false, IfErr, IfOk, IsOkUnless, OnErr, OnOk, Some, chars, codes, map, string_bytes};
+ghost use Rattle.std.specs.Prelude.{◌≡◌, ◌↔◌, ◌⊎◌, [], false, IfErr, IfOk, None, OnOk, Some, chars, codes, map, string_bytes};
 ghost use Rattle.std.specs.List.{list_any};
-ghost use Rattle.std.specs.List.Sorted.{IsPermutation, IsStrictlySortedBy};
-ghost use Rattle.std.specs.Cmp.Lexicographic.{slice_cmp};
-ghost use Rattle.std.specs.IoError.{error_kind};
-ghost use Rattle.std.specs.Ordering.{nat_cmp};
 ghost use Rattle.std.specs.Slice.Iter.{iter_rest};
 ghost use Rattle.jzon.specs.Answer.{IsErrorUnlessMemory};
 ghost use Rattle.jzon.specs.DisplayText.{comma_text};
-ghost use Rattle.jzon.specs.Entries.{entries_of};
 ghost use Rattle.jzon.specs.Generator.{Adds, Just};
 ghost use Rattle.jzon.specs.Lawful.{HasNoNan};
-ghost use Rattle.jzon.specs.PairList.{keys_of};
 ghost use Rattle.jzon.specs.Value.{array};
-ghost use Rattle.jzon.specs.View.{view, view_object, view_pairs, view_values};
+ghost use Rattle.jzon.specs.View.{view, view_object, view_values};
+ghost use Rattle.jzon_pointer.specs.Errors.{memory, what_of, Says};
+ghost use Rattle.jzon_pointer.specs.declared.error.What.TheVariants as what;
 ghost use Rattle.jzon_tools.specs.Canonical as canonical;
-ghost use Rattle.jzon_tools.specs.ErrorTexts.{canonical_error_kind, canonical_error_text};
 ghost use Rattle.jzon_tools.specs.Canonical.{has_nan, have_nan, normal_number, pointed};
 ghost use Rattle.jzon.specs.Reading.{strict_exact};
-ghost use Rattle.jzon_tools.specs.Canonical.{sorted_keys, CanonicalLaw, IsCanonicalOf, OneTextLaw};
+ghost use Rattle.jzon_tools.specs.Canonical.{CanonicalLaw, IsCanonicalOf, OneTextLaw};
+
+mod sorted_copies;
 
 use jzon::codegen::{DumpGenerator, Generator};
 use jzon::number::Number;
 use jzon::object::Object;
-use jzon::{Error, JsonValue, Reading, Result, io_error, parse_as};
+use jzon::{JsonValue, Reading, Result, parse_as};
+use jzon_pointer::error::{Error, What};
+use sorted_copies::sorted_entries;
+pub use sorted_copies::{sort_keys, sorted};
 use std::alloc::{AllocError, Global};
-use std::io::ErrorKind;
-use std::{fmt, io, slice};
-
-/// Why a value gets no canonical text.
-#[derive(Debug, PartialEq, Eq, Drop)]
-pub enum CanonicalError {
-    /// A NaN is in the value. No text means it.
-    NotANumber,
-    /// An allocation failed.
-    OutOfMemory,
-}
-
-impl fmt::Display for CanonicalError {
-    ghost output = { λ e. Some (canonical_error_text e) };
-
-    fn fmt<W: fmt::Write>(&self, f: &mut fmt::Formatter<W>) -> fmt::Result {
-        match self {
-            CanonicalError::NotANumber => f.write_str("Not a number"),
-            CanonicalError::OutOfMemory => f.write_str("Out of memory"),
-        }
-    }
-}
-
-impl std::error::Error for CanonicalError {}
-
-/// So that `?` works in a `main` that returns an `io::Result`. The kind is `OutOfMemory`, or else
-/// `InvalidData`.
-impl From<CanonicalError> for io::Error {
-    ghost from_gives = { λ e i. error_kind i ≡ canonical_error_kind e };
-
-    fn from(error: CanonicalError) -> io::Error {
-        let kind = match error {
-            CanonicalError::NotANumber => ErrorKind::InvalidData,
-            CanonicalError::OutOfMemory => ErrorKind::OutOfMemory,
-        };
-        io_error(kind, &error)
-    }
-}
+use std::{io, slice};
 
 /// The canonical text of a value without NaN.
 ///
@@ -78,20 +41,19 @@ impl From<CanonicalError> for io::Error {
 /// let text = canonical_text(alloc, &order)?;   // {"at":[0,100],"sum":1.5,"to":"b"}
 /// ```
 #[tactic(auto, using(crate::proofs::NanLaws::nan_laws))]
-pub fn canonical_text(
-    alloc: Global,
-    value: &JsonValue,
-) -> std::result::Result<String, CanonicalError>
+pub fn canonical_text(alloc: Global, value: &JsonValue) -> std::result::Result<String, Error>
     ensures text { IfOk result (λ text. string_bytes text ≡ canonical.canonical (view value.now)) }
     ensures number { OnOk result (HasNoNan (view value.now)) }
-    ensures nan { IfErr result (λ error. (error ≡ CanonicalError.NotANumber)
-        ↔ (HasNoNan (view value.now) → ⊥)) }
+    ensures error { IfErr result (λ e. (e ≡ memory)
+        ⊎ Says e (Some what.NotANumber) [] None None None) }
+    ensures nan { IfErr result (λ e. what_of e ≡ Some what.NotANumber
+        → HasNoNan (view value.now) → ⊥) }
 {
     match text_of(alloc, value) {
         Ok(text) => Ok(text),
         // The writing ends at the first NaN, but also before it, if an allocation fails.
-        Err(_) if has_nan(value) => Err(CanonicalError::NotANumber),
-        Err(_) => Err(CanonicalError::OutOfMemory),
+        Err(_) if has_nan(value) => Err(Error::new(alloc, What::NotANumber)),
+        Err(_) => Err(Error::MEMORY),
     }
 }
 
@@ -119,7 +81,7 @@ pub fn of_text(alloc: Global, source: &str) -> Result<String>
     ensures error { IfErr result (IsErrorUnlessMemory strict_exact (chars source.now)) }
 {
     let value = parse_as(alloc, source, &Reading::LOSSLESS)?;
-    text_of(alloc, &value).map_err(|_| Error::OutOfMemory)
+    text_of(alloc, &value).map_err(|_| jzon::Error::OutOfMemory)
 }
 
 /// Two values without NaN are equal if and only if their canonical texts are the same. It does
@@ -127,26 +89,6 @@ pub fn of_text(alloc: Global, source: &str) -> Result<String>
 pub fn law()
     ensures { CanonicalLaw }
 {}
-
-/// A copy of the value with the keys of each object sorted by their bytes, at every depth. Numbers
-/// keep their parts, and strings how they are stored.
-pub fn sorted(alloc: Global, value: &JsonValue) -> Result<JsonValue>
-    ensures sorted { IfOk result (λ copy. view copy ≡ sorted_keys (view value.now)) }
-    ensures memory { IsOkUnless result Error.OutOfMemory }
-{
-    arranged(alloc, value)
-}
-
-/// Sorts the keys of each object in the value by their bytes, at every depth. The value is copied
-/// meanwhile, so that a failed allocation changes nothing.
-pub fn sort_keys(alloc: Global, value: &mut JsonValue) -> Result<()>
-    ensures ok { OnOk result (view value.new ≡ sorted_keys (view value.old)) }
-    ensures err { OnErr result (value.new ≡ value.old) }
-    ensures memory { IsOkUnless result Error.OutOfMemory }
-{
-    *value = sorted(alloc, value)?;
-    Ok(())
-}
 
 /// Whether a NaN is in the value.
 #[cycle(nan)]
@@ -162,6 +104,7 @@ fn has_nan(value: &JsonValue) -> bool
     }
 }
 
+/// Whether a NaN is in one of the values.
 #[cycle(nan)]
 fn any_has_nan(values: slice::Iter<'_, JsonValue>) -> bool
     ensures { result ≡ list_any has_nan (map view (iter_rest values.entry)) }
@@ -172,47 +115,6 @@ fn any_has_nan(values: slice::Iter<'_, JsonValue>) -> bool
         }
     }
     false
-}
-
-/// A copy with sorted keys.
-#[cycle(arranged)]
-#[tactic(auto, using(crate::proofs::Views::views))]
-fn arranged(alloc: Global, value: &JsonValue) -> Result<JsonValue>
-    ensures copy { IfOk result (λ copy. view copy ≡ sorted_keys (view value.now)) }
-    ensures memory { IsOkUnless result Error.OutOfMemory }
-{
-    match value {
-        JsonValue::Array(items) => Ok(JsonValue::Array(arranged_items(alloc, items)?)),
-        JsonValue::Object(object) => Ok(JsonValue::Object(arranged_object(alloc, object)?)),
-        _ => value.clone(alloc),
-    }
-}
-
-#[cycle(arranged)]
-fn arranged_items(alloc: Global, items: &[JsonValue]) -> Result<Vec<JsonValue>>
-    ensures copy { IfOk result (λ copies. map view copies.items
-        ≡ map sorted_keys (map view items.now)) }
-    ensures memory { IsOkUnless result Error.OutOfMemory }
-{
-    let mut copies = Vec::with_capacity(alloc, items.len())?;
-    for item in items {
-        copies.push(arranged(alloc, item)?)?;
-    }
-    Ok(copies)
-}
-
-#[cycle(arranged)]
-fn arranged_object(alloc: Global, object: &Object) -> Result<Object>
-    ensures copy { IfOk result (λ copy. view_pairs (entries_of copy)
-        ≡ canonical.arranged_pairs (λ v. v) (view_pairs (entries_of object.now))) }
-    ensures memory { IsOkUnless result Error.OutOfMemory }
-{
-    let entries = sorted_entries(alloc, object)?;
-    let mut copy = Object::with_capacity(alloc, entries.len())?;
-    for (key, value) in &entries {
-        copy.insert(alloc, key, arranged(alloc, value)?)?;
-    }
-    Ok(copy)
 }
 
 /// A NaN was met, or an allocation failed.
@@ -258,6 +160,7 @@ fn write_value<G: Generator>(alloc: Global, text: &mut G, value: &JsonValue) -> 
     Ok(())
 }
 
+/// As `write_value`, of an array.
 #[inline(never)]
 #[cycle(write)]
 fn write_array<G: Generator>(alloc: Global, text: &mut G, items: &[JsonValue]) -> Step
@@ -274,6 +177,7 @@ fn write_array<G: Generator>(alloc: Global, text: &mut G, items: &[JsonValue]) -
     Ok(())
 }
 
+/// As `write_value`, of an object, whose entries are written in the order of their keys.
 #[inline(never)]
 #[cycle(write)]
 fn write_object<G: Generator>(alloc: Global, text: &mut G, object: &Object) -> Step
@@ -294,6 +198,7 @@ fn write_object<G: Generator>(alloc: Global, text: &mut G, object: &Object) -> S
     Ok(())
 }
 
+/// Adds a comma if one is due.
 fn write_comma<G: Generator>(text: &mut G, comma: bool) -> Step
     ensures { OnOk result (Adds (Just (comma_text comma)) (G.meaning text.old).out
         (G.meaning text.new).out) }
@@ -302,28 +207,6 @@ fn write_comma<G: Generator>(text: &mut G, comma: bool) -> Step
         text.write_char(b',')?;
     }
     Ok(())
-}
-
-/// The entries of the object, sorted by their keys.
-fn sorted_entries<'a>(
-    alloc: Global,
-    object: &'a Object,
-) -> std::result::Result<Vec<(&'a str, &'a JsonValue)>, AllocError>
-    ensures same { IfOk result (λ entries. IsPermutation (entries_of object.now)
-        (map pointed entries.items)) }
-    ensures sorted { IfOk result (λ entries. IsStrictlySortedBy (slice_cmp nat_cmp)
-        (keys_of (map pointed entries.items))) }
-{
-    let mut entries = Vec::with_capacity(alloc, object.len())?;
-    for (key, value) in object {
-        entries.push((key, value))?;
-    }
-    entries.sort_by_key(
-        |entry|
-            ensures { result ≡ entry.now.0 }
-        { entry.0 },
-    )?;
-    Ok(entries)
 }
 
 /// The number with `+0` for each zero; any other without the last zeros of its mantissa.

@@ -2,64 +2,76 @@
 //!
 //! A change goes down by `change_at`, a recursion, since a contract can say what a closure leaves
 //! inside a value, but not what is written through a returned reference. Where it finds nothing,
-//! nothing was changed, and `find` then says why.
+//! nothing was changed, and `seek` then says why.
 
-ghost use Rattle.std.specs.Prelude.{◌≡◌, ◌≤◌, ◌+◌, ◌⊎◌, ◌∷◌, ℕ, max, nat_le, List, OnOk, OnErr, IfOk, IfErr, IfSome, IsErr, Ok, Err, None, Some, false, if◌then◌else◌, map, option_map};
+ghost use Rattle.std.specs.Prelude.{◌≡◌, ◌≤◌, ◌+◌, ◌⊎◌, ◌∷◌, ℕ, max, nat_le, List, OnOk, OnErr, IfOk, IfErr, IfSome, IsErr, Ok, Err, None, Some, map, option_map};
 ghost use Rattle.std.specs.Fn.{FnOnceReturnsAtMut};
 ghost use Rattle.std.specs.Option.{option_copied};
 ghost use Rattle.jzon.specs.JsonValue.{JsonValue as Json};
 ghost use Rattle.jzon.specs.Value.{Value, array, nest, values_of};
 ghost use Rattle.jzon.specs.View.{view, view_object};
+ghost use Rattle.jzon_pointer.specs.Errors.{memory, IsLost, SaysOrMemory};
 ghost use Rattle.jzon_pointer.specs.Pointer.{child_of, entry_at, inserted_at, new_index, removed_at, slashes, tokens_left, updated_at, value_at, with_new, without, ChangesAt, IsLast, LacksAt};
-ghost use Rattle.jzon_pointer.specs.declared.pointer.PointerError.TheVariants.{OutOfMemory};
+ghost use Rattle.jzon_pointer.specs.declared.error.What.TheVariants as what;
+ghost use Rattle.jzon_tools.specs.declared.edit.Refused.TheVariants.{Lost, OutOfMemory};
+ghost use Rattle.jzon_tools.specs.declared.edit.Unplaced.TheVariants as unplaced;
 
 use crate::weight;
 use jzon::JsonValue;
 use jzon::object::Object;
+use jzon_pointer::error::{Error, What};
 use jzon_pointer::token::{after_slash, first_token, index_of, is_plain, key_of, position_of};
-use jzon_pointer::{PointerError, find};
-use std::alloc::Global;
+use jzon_pointer::{PointerError, seek};
+use std::alloc::{AllocError, AllocFailed, Global};
 
 /// Calls `change` with the value that a pointer names, and returns what it returns. After an error
 /// it wasn't called.
 ///
 /// ```rust
-/// edit::update(&mut config, "/servers/0/port", |port| {
+/// edit::update(alloc, &mut config, "/servers/0/port", |port| {
 ///     *port = JsonValue::from(81u16);
 /// })?;
 /// ```
 pub fn update<R, F: FnOnce(&mut JsonValue) -> R>(
+    alloc: Global,
     value: &mut JsonValue,
     path: &str,
     change: F,
-) -> Result<R, PointerError>
+) -> Result<R, Error>
     requires { F.IsAlwaysCallable change }
     ensures ok { IfOk result (λ r. (old : Json) × (new : Json)
         × FnOnceReturnsAtMut F.FnOnce change old r new
         × (value_at (view value.old) path.now ≡ Ok (view old))
         × (updated_at (λ _. Some (view new)) (view value.old) path.now ≡ Some (view value.new))) }
     ensures err { OnErr result (view value.new ≡ view value.old) }
-    ensures error { IfErr result (λ e. value_at (view value.old) path.now ≡ Err e) }
+    ensures error { IfErr result (IsLost (value_at (view value.old) path.now) path.now) }
 {
-    let left = after_slash(path)?;
-    match change_at(value, left, change) {
-        Some(changed) => Ok(changed),
-        None => Err(why_none(value, path)),
+    match update_at(value, path, change) {
+        Ok(changed) => Ok(changed),
+        Err(error) => Err(lost(alloc, path, error)),
     }
 }
 
 /// Puts a new value in the place of the one that a pointer names, and returns the old one. `nests_within`
 /// says beforehand how deep the new one is then.
-pub fn replace(value: &mut JsonValue, path: &str, new: JsonValue) -> Result<JsonValue, PointerError>
+pub fn replace(
+    alloc: Global,
+    value: &mut JsonValue,
+    path: &str,
+    new: JsonValue,
+) -> Result<JsonValue, Error>
     ensures old { IfOk result (λ old. value_at (view value.old) path.now ≡ Ok (view old)) }
     ensures new { OnOk result (updated_at (λ _. Some (view new)) (view value.old) path.now
         ≡ Some (view value.new)) }
     ensures depth { OnOk result (nest (view value.new)
         ≤ max (nest (view value.old)) (slashes path.now + nest (view new))) }
     ensures err { OnErr result (view value.new ≡ view value.old) }
-    ensures error { IfErr result (λ e. value_at (view value.old) path.now ≡ Err e) }
+    ensures error { IfErr result (IsLost (value_at (view value.old) path.now) path.now) }
 {
-    update(value, path, |place| std::mem::replace(place, new))
+    match replace_at(value, path, new) {
+        Ok(old) => Ok(old),
+        Err(error) => Err(lost(alloc, path, error)),
+    }
 }
 
 /// Inserts a new value at a pointer, as `add` of RFC 6902 does: into an object, or into an array,
@@ -67,27 +79,20 @@ pub fn replace(value: &mut JsonValue, path: &str, new: JsonValue) -> Result<Json
 ///
 /// **A key that is present is overwritten**: its old value is dropped. An array's elements from the
 /// index on move up. Below a stranger's pointer a value may become too deep: ask `nests_within` before.
-pub fn insert(
-    alloc: Global,
-    value: &mut JsonValue,
-    path: &str,
-    new: JsonValue,
-) -> Result<(), PointerError>
+pub fn insert(alloc: Global, value: &mut JsonValue, path: &str, new: JsonValue) -> Result<(), Error>
     ensures ok { OnOk result (inserted_at (view new) (view value.old) path.now
         ≡ Some (view value.new)) }
     ensures depth { OnOk result (nest (view value.new)
         ≤ max (nest (view value.old)) (slashes path.now + nest (view new))) }
     ensures err { OnErr result (view value.new ≡ view value.old) }
-    ensures error { IfErr result (λ e. (e ≡ OutOfMemory)
+    ensures error { IfErr result (λ e. (e ≡ memory)
         ⊎ ((inserted_at (view new) (view value.old) path.now ≡ None)
-        × (entry_at (view value.old) path.now ≡ Err e))) }
+        × IsLost (entry_at (view value.old) path.now) path.now e)) }
 {
-    let (left, token) = split_last(path)?;
-    match change_at(value, left, |place| insert_child(alloc, place, token, new)) {
-        Some(Ok(true)) => Ok(()),
-        Some(Err(_error)) => Err(PointerError::OutOfMemory),
-        Some(Ok(false)) => Err(why_none(value, path)),
-        None => Err(why_none(value, path)),
+    match insert_at(alloc, value, path, new) {
+        Ok(()) => Ok(()),
+        Err(Refused::OutOfMemory) => Err(Error::MEMORY),
+        Err(Refused::Lost(error)) => Err(lost(alloc, path, error)),
     }
 }
 
@@ -107,7 +112,108 @@ pub fn nests_within(path: &str, new: &JsonValue, depth: usize) -> bool
 }
 
 /// Removes the entry or the element that a pointer names, and returns its value.
-pub fn remove(value: &mut JsonValue, path: &str) -> Result<JsonValue, PointerError>
+pub fn remove(alloc: Global, value: &mut JsonValue, path: &str) -> Result<JsonValue, Error>
+    ensures old { IfOk result (λ old. entry_at (view value.old) path.now ≡ Ok (view old)) }
+    ensures new { OnOk result (removed_at (view value.old) path.now ≡ Some (view value.new)) }
+    ensures err { OnErr result (view value.new ≡ view value.old) }
+    ensures error { IfErr result (IsLost (entry_at (view value.old) path.now) path.now) }
+{
+    match remove_at(value, path) {
+        Ok(old) => Ok(old),
+        Err(error) => Err(lost(alloc, path, error)),
+    }
+}
+
+/// The error of a pointer that names nothing.
+#[cold]
+fn lost(alloc: Global, path: &str, error: PointerError) -> Error
+    ensures { SaysOrMemory result (Some (what.Pointer error)) path.now None None None }
+{
+    Error::at_pointer(alloc, path, What::Pointer(error))
+}
+
+/// Why nothing was inserted.
+#[derive(Clone, Copy)]
+pub(crate) enum Refused {
+    /// The pointer names no place for a new value.
+    Lost(PointerError),
+    OutOfMemory,
+}
+
+impl From<PointerError> for Refused {
+    ghost from_gives = { λ e r. r ≡ Lost e };
+
+    fn from(error: PointerError) -> Refused {
+        Refused::Lost(error)
+    }
+}
+
+/// `update` without an allocation: the error doesn't own the pointer.
+fn update_at<R, F: FnOnce(&mut JsonValue) -> R>(
+    value: &mut JsonValue,
+    path: &str,
+    change: F,
+) -> Result<R, PointerError>
+    requires { F.IsAlwaysCallable change }
+    ensures ok { IfOk result (λ r. (old : Json) × (new : Json)
+        × FnOnceReturnsAtMut F.FnOnce change old r new
+        × (value_at (view value.old) path.now ≡ Ok (view old))
+        × (updated_at (λ _. Some (view new)) (view value.old) path.now ≡ Some (view value.new))) }
+    ensures err { OnErr result (view value.new ≡ view value.old) }
+    ensures error { IfErr result (λ e. value_at (view value.old) path.now ≡ Err e) }
+{
+    let left = after_slash(path)?;
+    match change_at(value, left, change) {
+        Some(changed) => Ok(changed),
+        None => Err(why_none(value, path)),
+    }
+}
+
+/// `replace` in the same way.
+pub(crate) fn replace_at(
+    value: &mut JsonValue,
+    path: &str,
+    new: JsonValue,
+) -> Result<JsonValue, PointerError>
+    ensures old { IfOk result (λ old. value_at (view value.old) path.now ≡ Ok (view old)) }
+    ensures new { OnOk result (updated_at (λ _. Some (view new)) (view value.old) path.now
+        ≡ Some (view value.new)) }
+    ensures depth { OnOk result (nest (view value.new)
+        ≤ max (nest (view value.old)) (slashes path.now + nest (view new))) }
+    ensures err { OnErr result (view value.new ≡ view value.old) }
+    ensures error { IfErr result (λ e. value_at (view value.old) path.now ≡ Err e) }
+{
+    update_at(value, path, |place| std::mem::replace(place, new))
+}
+
+/// `insert` in the same way.
+pub(crate) fn insert_at(
+    alloc: Global,
+    value: &mut JsonValue,
+    path: &str,
+    new: JsonValue,
+) -> Result<(), Refused>
+    ensures ok { OnOk result (inserted_at (view new) (view value.old) path.now
+        ≡ Some (view value.new)) }
+    ensures depth { OnOk result (nest (view value.new)
+        ≤ max (nest (view value.old)) (slashes path.now + nest (view new))) }
+    ensures err { OnErr result (view value.new ≡ view value.old) }
+    ensures error { IfErr result (λ e. (e ≡ OutOfMemory)
+        ⊎ ((lost : PointerError) × (e ≡ Lost lost)
+        × (inserted_at (view new) (view value.old) path.now ≡ None)
+        × (entry_at (view value.old) path.now ≡ Err lost))) }
+{
+    let (left, token) = split_last(path)?;
+    match change_at(value, left, |place| insert_child(alloc, place, token, new)) {
+        Some(Ok(())) => Ok(()),
+        Some(Err(Unplaced::OutOfMemory)) => Err(Refused::OutOfMemory),
+        Some(Err(Unplaced::NoPlace)) => Err(Refused::Lost(why_none(value, path))),
+        None => Err(Refused::Lost(why_none(value, path))),
+    }
+}
+
+/// `remove` in the same way.
+pub(crate) fn remove_at(value: &mut JsonValue, path: &str) -> Result<JsonValue, PointerError>
     ensures old { IfOk result (λ old. entry_at (view value.old) path.now ≡ Ok (view old)) }
     ensures new { OnOk result (removed_at (view value.old) path.now ≡ Some (view value.new)) }
     ensures err { OnErr result (view value.new ≡ view value.old) }
@@ -151,7 +257,7 @@ fn why_none(value: &JsonValue, path: &str) -> PointerError
     requires { IsErr (value_at (view value.now) path.now) }
     ensures { value_at (view value.now) path.now ≡ Err result }
 {
-    match find(value, path) {
+    match seek(value, path) {
         Ok(_found) => PointerError::WholeValue,
         Err(error) => error,
     }
@@ -228,65 +334,99 @@ fn change_member<R, F: FnOnce(&mut JsonValue) -> R>(
     change_at(member, rest, change)
 }
 
-/// Inserts a child that a token names. Whether the value can have one of this name.
+/// Why a value got no new child.
+#[derive(Clone, Copy)]
+enum Unplaced {
+    /// It can have none of this name.
+    NoPlace,
+    OutOfMemory,
+}
+
+impl From<jzon::Error> for Unplaced {
+    ghost from_gives = { λ _ u. u ≡ unplaced.OutOfMemory };
+
+    fn from(_refused: jzon::Error) -> Unplaced {
+        Unplaced::OutOfMemory
+    }
+}
+
+impl From<AllocError> for Unplaced {
+    ghost from_gives = { λ _ u. u ≡ unplaced.OutOfMemory };
+
+    fn from(_refused: AllocError) -> Unplaced {
+        Unplaced::OutOfMemory
+    }
+}
+
+impl<T: Drop> From<AllocFailed<T>> for Unplaced {
+    ghost from_gives = { λ _ u. u ≡ unplaced.OutOfMemory };
+
+    fn from(_refused: AllocFailed<T>) -> Unplaced {
+        Unplaced::OutOfMemory
+    }
+}
+
+/// Inserts a child that a token names, if the value can have one of this name.
 #[tactic(auto, using(jzon_pointer::proofs::PlaceSteps::placing))]
 fn insert_child(
     alloc: Global,
     value: &mut JsonValue,
     token: &str,
     new: JsonValue,
-) -> jzon::Result<bool>
-    ensures ok { IfOk result (λ is. with_new (view new) (view value.old) token.now
-        ≡ (if is then Some (view value.new) else None)) }
-    ensures kept { IfOk result (λ is. is ≡ false → view value.new ≡ view value.old) }
+) -> Result<(), Unplaced>
+    ensures ok { OnOk result (with_new (view new) (view value.old) token.now
+        ≡ Some (view value.new)) }
     ensures err { OnErr result (view value.new ≡ view value.old) }
+    ensures error { IfErr result (λ e. e ≡ unplaced.NoPlace
+        → with_new (view new) (view value.old) token.now ≡ None) }
 {
     match value {
         JsonValue::Array(items) => insert_element(items, token, new),
         JsonValue::Object(object) => insert_member(alloc, object, token, new),
-        _ => Ok(false),
+        _ => Err(Unplaced::NoPlace),
     }
 }
 
-fn insert_element(items: &mut Vec<JsonValue>, token: &str, new: JsonValue) -> jzon::Result<bool>
-    ensures ok { IfOk result (λ is.
+/// As `insert_child`, of an array.
+fn insert_element(items: &mut Vec<JsonValue>, token: &str, new: JsonValue) -> Result<(), Unplaced>
+    ensures ok { OnOk result (
         with_new (view new) (array (values_of (map view items.old.items))) token.now
-        ≡ (if is then Some (array (values_of (map view items.new.items))) else None)) }
-    ensures kept { IfOk result (λ is. is ≡ false → array (values_of (map view items.new.items))
-        ≡ array (values_of (map view items.old.items))) }
+        ≡ Some (array (values_of (map view items.new.items)))) }
     ensures err { OnErr result (array (values_of (map view items.new.items))
         ≡ array (values_of (map view items.old.items))) }
+    ensures error { IfErr result (λ e. e ≡ unplaced.NoPlace
+        → with_new (view new) (array (values_of (map view items.old.items))) token.now ≡ None) }
 {
     let Some(index) = new_index(token, items.len()) else {
-        return Ok(false);
+        return Err(Unplaced::NoPlace);
     };
     items.insert(index, new)?;
-    Ok(true)
+    Ok(())
 }
 
-/// Puts a value under the key that a token names. `false` for a bad escape, which names none.
+/// Puts a value under the key that a token names. A bad escape names none.
 fn insert_member(
     alloc: Global,
     object: &mut Object,
     token: &str,
     new: JsonValue,
-) -> jzon::Result<bool>
-    ensures ok { IfOk result (λ is. with_new (view new) (view_object object.old) token.now
-        ≡ (if is then Some (view_object object.new) else None)) }
-    ensures kept { IfOk result (λ is. is ≡ false
-        → view_object object.new ≡ view_object object.old) }
+) -> Result<(), Unplaced>
+    ensures ok { OnOk result (with_new (view new) (view_object object.old) token.now
+        ≡ Some (view_object object.new)) }
     ensures err { OnErr result (view_object object.new ≡ view_object object.old) }
+    ensures error { IfErr result (λ e. e ≡ unplaced.NoPlace
+        → with_new (view new) (view_object object.old) token.now ≡ None) }
 {
     if is_plain(token) {
         object.insert(alloc, token, new)?;
-        return Ok(true);
+        return Ok(());
     }
     match key_of(alloc, token)? {
         Some(key) => {
             object.insert(alloc, key.as_str(), new)?;
-            Ok(true)
+            Ok(())
         }
-        None => Ok(false),
+        None => Err(Unplaced::NoPlace),
     }
 }
 
@@ -316,6 +456,7 @@ fn remove_child(value: &mut JsonValue, token: &str) -> Option<JsonValue>
     }
 }
 
+/// As `remove_child`, of an array.
 fn remove_element(items: &mut Vec<JsonValue>, token: &str) -> Option<JsonValue>
     ensures old { option_map view result
         ≡ child_of (array (values_of (map view items.old.items))) token.now }

@@ -4,16 +4,27 @@
 //! Both are `merged` of specs/Merge.antt, which differ at a null. The change is made in a copy, which
 //! then replaces the value: so an error leaves the value as it was. `merge`, `merge_members` and
 //! `merge_member` call one another; proofs/merge/+merge says what gets smaller: the size of the patch.
+//!
+//! If a patch removes many members, they are removed in one pass before its entries are merged:
+//! removing one moves all that come after it.
 
-ghost use Rattle.std.specs.Prelude.{◌≡◌, ◌≤◌, OnOk, OnErr, IsOkUnless, max, true, false};
+ghost use Rattle.std.specs.Prelude.{◌≡◌, ◌≤◌, OnOk, OnErr, IsOkUnless, max, not, true, false};
 ghost use Rattle.jzon.specs.Entries.{entries_of};
+ghost use Rattle.jzon.specs.PairList.{find};
 ghost use Rattle.jzon.specs.Value.{nest};
 ghost use Rattle.jzon.specs.View.{view, viewed, view_pairs};
 ghost use Rattle.jzon_tools.specs.Merge.{merged, merged_pairs, merged_pair};
+ghost use Rattle.jzon_tools.specs.Private.Removals.{is_null_found};
 
+mod changes;
+
+pub use changes::diff;
 use jzon::object::Object;
 use jzon::{Error, JsonValue, Result};
 use std::alloc::Global;
+
+/// Up to how many members are removed one by one: a pass over all costs about as much.
+const FEW: usize = 16;
 
 /// Applies a merge patch (RFC 7396): an entry of the patch that is null removes the target's, any
 /// other is put into it, and objects are merged at every depth. A patch that is no object replaces
@@ -75,6 +86,7 @@ fn merge(alloc: Global, target: &mut JsonValue, patch: &JsonValue, drops_nulls: 
     }
 }
 
+/// Merges the members of a patch into an object.
 #[cycle(merge)]
 #[tactic(auto, using(crate::proofs::Merges::merges))]
 fn merge_members(
@@ -87,10 +99,47 @@ fn merge_members(
         (viewed (entries_of object.old)) (view_pairs (entries_of members.now))) }
     ensures memory { IsOkUnless result Error.OutOfMemory }
 {
+    remove_nulls(object, members, drops_nulls);
     for (key, value) in members.iter() {
         merge_member(alloc, object, key, value, drops_nulls)?;
     }
     Ok(())
+}
+
+/// Removes the members whose key has null in the patch, if nulls are dropped and are many. What the
+/// merge makes of the object stays the same.
+fn remove_nulls(object: &mut Object, members: &Object, drops_nulls: bool)
+    ensures { merged_pairs drops_nulls (viewed (entries_of object.new)) (view_pairs (entries_of members.now))
+        ≡ merged_pairs drops_nulls (viewed (entries_of object.old)) (view_pairs (entries_of members.now)) }
+{
+    if !drops_nulls || !has_many_nulls(members) {
+        return;
+    }
+    // The contract of `len` says that no key repeats.
+    let _known = object.len().max(members.len());
+    object.retain(
+        |key: &str, value: &mut JsonValue| -> bool
+            ensures { (result ≡ not (is_null_found (find key.now
+                (viewed (entries_of members.entry.now)))))
+                × (value.new ≡ value.old) }
+        { !is_null_at(members, key) },
+    );
+}
+
+/// Whether a patch has more than `FEW` nulls. Only the time of a merge depends on it.
+fn has_many_nulls(members: &Object) -> bool {
+    members.values().filter(|value| value.is_null()).count() > FEW
+}
+
+/// Whether a patch has null for the key.
+#[tactic(auto, using(crate::proofs::Merges::merges))]
+fn is_null_at(members: &Object, key: &str) -> bool
+    ensures { result ≡ is_null_found (find key.now (viewed (entries_of members.now))) }
+{
+    match members.get(key) {
+        Some(value) => value.is_null(),
+        None => false,
+    }
 }
 
 #[cycle(merge)]

@@ -34,6 +34,7 @@ pub fn redact(value: &mut JsonValue, names: &[&str]) -> usize
     }
 }
 
+/// Redacts the elements of an array, and counts what it replaced.
 #[cycle(redact)]
 #[tactic(auto, using(crate::proofs::RedactSteps::redaction))]
 fn redact_elements(items: &mut Vec<JsonValue>, names: &[&str]) -> usize
@@ -49,6 +50,7 @@ fn redact_elements(items: &mut Vec<JsonValue>, names: &[&str]) -> usize
     count
 }
 
+/// Redacts the entries of an object, and counts what it replaced.
 #[cycle(redact)]
 #[tactic(auto, using(crate::proofs::RedactSteps::redaction))]
 fn redact_members(object: &mut Object, names: &[&str]) -> usize
@@ -67,6 +69,7 @@ fn redact_members(object: &mut Object, names: &[&str]) -> usize
     count
 }
 
+/// Replaces the value of an entry if its name `hides` it, and otherwise redacts it.
 #[cycle(redact)]
 #[tactic(auto, using(crate::proofs::RedactSteps::redaction))]
 fn redact_member(value: &mut JsonValue, hides: bool, names: &[&str]) -> usize

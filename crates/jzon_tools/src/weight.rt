@@ -60,6 +60,7 @@ pub fn weigh(value: &JsonValue, room: usize) -> Option<usize>
     }
 }
 
+/// As `weigh`, of the elements of an array together.
 #[cycle(weigh)]
 #[tactic(auto, using(crate::proofs::WeightSteps::weighing))]
 fn weigh_items(items: slice::Iter<'_, JsonValue>, room: usize) -> Option<usize>
@@ -74,6 +75,7 @@ fn weigh_items(items: slice::Iter<'_, JsonValue>, room: usize) -> Option<usize>
     Some(left)
 }
 
+/// As `weigh`, of the keys and the values of an object together.
 #[cycle(weigh)]
 #[tactic(auto, using(crate::proofs::WeightSteps::weighing))]
 fn weigh_members(object: &Object, room: usize) -> Option<usize>

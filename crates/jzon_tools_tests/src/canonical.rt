@@ -3,9 +3,10 @@
 use crate::common::{Tested, Tester, expect, expect_dump, expect_eq};
 use jzon::number::NAN;
 use jzon::short::Short;
-use jzon::{Error, JsonValue, parse};
+use jzon::{Error as TextError, JsonValue, parse};
+use jzon_pointer::error::{Error, What};
 use jzon_test_support::{RUNS_MAX, Refusals, keys_by_hash, object_text, rows};
-use jzon_tools::canonical::{CanonicalError, canonical_text, of_text, sort_keys, sorted};
+use jzon_tools::canonical::{canonical_text, of_text, sort_keys, sorted};
 use std::alloc::Global;
 use std::io;
 use std::test::Fail;
@@ -78,12 +79,12 @@ fn reads_texts(rt: HostRuntime) -> Tested {
     expect_eq(&rt, "canonical", text.as_str(), "{\"a\":[0,100],\"b\":1.5}");
     let again = of_text(alloc, text.as_str())?;
     expect_eq(&rt, "again", again.as_str(), text.as_str());
-    let repeated = Error::DuplicateKey { line: 1, column: 8 };
+    let repeated = TextError::DuplicateKey { line: 1, column: 8 };
     let result = of_text(alloc, "{\"a\":1,\"a\":2}");
     expect(&rt, "repeated key", result == Err(repeated));
     let result = of_text(alloc, "[1,");
-    expect(&rt, "end", result == Err(Error::UnexpectedEndOfJson));
-    let inexact = Error::InexactNumber {
+    expect(&rt, "end", result == Err(TextError::UnexpectedEndOfJson));
+    let inexact = TextError::InexactNumber {
         line: 1,
         column: 21,
     };
@@ -142,22 +143,18 @@ fn nan_has_no_text(rt: HostRuntime) -> Tested {
     for (text, keys) in NAN_ROWS {
         let value = with_nan(rt.alloc(), text, keys)?;
         let result = canonical_text(rt.alloc(), &value);
-        expect(&rt, text, result == Err(CanonicalError::NotANumber));
+        let error = Error::new(rt.alloc(), What::NotANumber);
+        expect(&rt, text, result == Err(error));
         let copy = sorted(rt.alloc(), &value)?;
         expect(&rt, text, copy == value);
     }
-    let text = format!(in rt.alloc();
-        "{}, {}",
-        CanonicalError::NotANumber,
-        CanonicalError::OutOfMemory
-    )?;
-    expect_eq(&rt, "Display", text.as_str(), "Not a number, Out of memory");
-    let raised = io::Error::from(CanonicalError::NotANumber);
+    let error = Error::new(rt.alloc(), What::NotANumber);
+    let text = format!(in rt.alloc(); "{error}")?;
+    expect_eq(&rt, "Display", text.as_str(), "not a number");
+    let raised = io::Error::from(error);
     let message = format!(in rt.alloc(); "{raised}")?;
-    expect_eq(&rt, "io::Error", message.as_str(), "Not a number");
+    expect_eq(&rt, "io::Error", message.as_str(), "not a number");
     expect_eq(&rt, "its kind", raised.kind(), io::ErrorKind::InvalidData);
-    let kind = io::Error::from(CanonicalError::OutOfMemory).kind();
-    expect_eq(&rt, "its kind", kind, io::ErrorKind::OutOfMemory);
     Ok(())
 }
 
@@ -214,15 +211,12 @@ enum Call {
 
 impl Call {
     /// What the call made becomes the value.
-    fn call(self, alloc: Global, value: &mut JsonValue) -> Result<(), CanonicalError> {
-        let made = match self {
-            Call::Text => Ok(JsonValue::String(canonical_text(alloc, value)?)),
-            Call::Sorted => sorted(alloc, value),
-            Call::SortKeys => return sort_keys(alloc, value).map_err(
-                |_| CanonicalError::OutOfMemory,
-            ),
-        };
-        *value = made.map_err(|_| CanonicalError::OutOfMemory)?;
+    fn call(self, alloc: Global, value: &mut JsonValue) -> Result<(), Error> {
+        match self {
+            Call::Text => *value = JsonValue::String(canonical_text(alloc, value)?),
+            Call::Sorted => *value = sorted(alloc, value)?,
+            Call::SortKeys => sort_keys(alloc, value)?,
+        }
         Ok(())
     }
 }
@@ -270,7 +264,7 @@ fn run(
     let result = row.0.call(alloc, &mut value);
     let has_failed = refusals.has_failed();
     if has_failed {
-        expect(rt, row.1, result == Err(CanonicalError::OutOfMemory));
+        expect(rt, row.1, result == Err(Error::MEMORY));
         expect_dump(rt, &value, row.2);
         return Ok(true);
     }

@@ -4,7 +4,7 @@ use crate::common::{Tested, Tester, expect, expect_eq};
 use jzon::number::Number;
 use jzon::{JsonValue, Reading};
 use jzon_test_support::{RUNS_MAX, Refusals, joined, rows};
-use jzon_typed::decode::{self, DecodeError, Fields, FromJson};
+use jzon_typed::decode::{self, Error, Fields, FromJson};
 use jzon_typed::encode::{self, Members, ToJson};
 use std::alloc::Global;
 use std::collections::BTreeMap;
@@ -36,8 +36,10 @@ enum As {
     Flags,
     Boxed,
     Pair,
+    Triple,
     Unset,
     Sample,
+    Login,
 }
 
 /// Fields of each kind.
@@ -55,10 +57,10 @@ struct Sample {
 struct Cents(i64);
 
 impl FromJson for Cents {
-    fn from_json(alloc: Global, value: &JsonValue) -> Result<Cents, DecodeError> {
+    fn from_json(alloc: Global, value: &JsonValue) -> Result<Cents, Error> {
         match value.as_exact_fixed_point_i64(2) {
             Some(cents) => Ok(Cents(cents)),
-            None => Err(DecodeError::expected(alloc, value, "a price")),
+            None => Err(decode::expected(alloc, value, "a price")),
         }
     }
 }
@@ -71,7 +73,7 @@ struct Unset {
 }
 
 impl FromJson for Unset {
-    fn from_json(alloc: Global, value: &JsonValue) -> Result<Unset, DecodeError> {
+    fn from_json(alloc: Global, value: &JsonValue) -> Result<Unset, Error> {
         let unset = Fields::of(alloc, value)?;
         Ok(Unset {
             small: unset.read_or("small", Some(7))?,
@@ -89,8 +91,25 @@ impl ToJson for Unset {
     }
 }
 
+/// A field that must be there, and isn't shown.
+#[derive(Clone, Copy)]
+struct Login {
+    pin: u8,
+}
+
+impl FromJson for Login {
+    fn from_json(alloc: Global, value: &JsonValue) -> Result<Login, Error> {
+        let login = Fields::of(alloc, value)?;
+        let pin = login.read("pin")?;
+        if pin == 7 {
+            return Err(login.expected_hidden("pin", "another number"));
+        }
+        Ok(Login { pin })
+    }
+}
+
 impl FromJson for Sample {
-    fn from_json(alloc: Global, value: &JsonValue) -> Result<Sample, DecodeError> {
+    fn from_json(alloc: Global, value: &JsonValue) -> Result<Sample, Error> {
         let sample = Fields::of(alloc, value)?;
         sample.deny_unknown(&["name", "small", "cents", "lists", "price", "a/b~c"])?;
         let name = sample.str("name")?;
@@ -191,6 +210,9 @@ const READ: &[(&str, As, &str)] = rows! {
     ("[1]", As::Pair, "expected an array of 2 elements, found an array of 1 element")
     ("[1,[],2]", As::Pair, "expected an array of 2 elements, found an array of 3 elements")
     (r#"{"a":1,"b":2}"#, As::Pair, "expected an array of 2 elements, found an object of 2 entries")
+    (r#"[7,"a",true]"#, As::Triple, r#"[7,"a",true]"#)
+    (r#"[7,"a"]"#, As::Triple, "expected an array of 3 elements, found an array of 2 elements")
+    (r#"[7,"a",1]"#, As::Triple, "/2: expected true or false, found 1")
     (r#"{"small":null,"value":null}"#, As::Unset, r#"{"small":7,"value":true}"#)
     ("{}", As::Unset, r#"{"small":7,"value":true}"#)
     (r#"{"small":1,"value":[]}"#, As::Unset, r#"{"small":1,"value":[]}"#)
@@ -205,6 +227,10 @@ const READ: &[(&str, As, &str)] = rows! {
     (r#"{"name":"a","lists":[],"price":1}"#, As::Sample, "a 7 none 0 10 0")
     (r#"{"name":"a","small":null,"cents":null,"lists":[],"price":1,"a/b~c":null}"#, As::Sample, "a 7 none 0 10 0")
     (r#"{"name":"b","small":1,"cents":19.9,"lists":[[1],[]],"price":-0.5,"a/b~c":{"x":80}}"#, As::Sample, "b 1 1990 2 -5 1")
+    (r#"{"pin":8}"#, As::Login, "8")
+    ("{}", As::Login, "/pin: missing, expected an integer from 0 to 255")
+    (r#"{"pin":null}"#, As::Login, "/pin: expected an integer from 0 to 255, found null")
+    (r#"{"pin":7}"#, As::Login, "/pin: expected another number, found a number")
     ("[]", As::Sample, "expected an object, found an empty array")
     ("{}", As::Sample, "/name: missing, expected a string")
     (r#"{"name":null}"#, As::Sample, "/name: expected a string, found null")
@@ -232,15 +258,21 @@ const READ: &[(&str, As, &str)] = rows! {
 };
 
 /// What is left of a text after it was read, converted, read and converted again.
-fn reread<T: FromJson + ToJson>(alloc: Global, text: &str) -> Result<String, DecodeError> {
+fn reread<T: FromJson + ToJson>(alloc: Global, text: &str) -> Result<String, Error> {
     let first: T = decode::from_text(alloc, text)?;
     let value = first.to_json(alloc)?;
     let second = T::from_json(alloc, &value)?;
     Ok(encode::to_text(alloc, &second)?)
 }
 
+/// The pin of a login.
+fn pin_of(alloc: Global, text: &str) -> Result<String, Error> {
+    let login: Login = decode::from_text(alloc, text)?;
+    Ok(encode::to_text(alloc, &login.pin)?)
+}
+
 /// The parts of a sample.
-fn parts_of(alloc: Global, text: &str) -> Result<String, DecodeError> {
+fn parts_of(alloc: Global, text: &str) -> Result<String, Error> {
     let read: Sample = decode::from_text(alloc, text)?;
     let cents = match read.cents {
         Some(cents) => format!(in alloc; "{}", cents.0)?,
@@ -254,7 +286,15 @@ fn parts_of(alloc: Global, text: &str) -> Result<String, DecodeError> {
     )?)
 }
 
-fn printed(alloc: Global, text: &str, kind: As) -> Result<String, DecodeError> {
+/// The result of a row; an error in a value is left without its place.
+fn printed(alloc: Global, text: &str, kind: As) -> Result<String, Error> {
+    match printed_as(alloc, text, kind) {
+        Ok(text) => Ok(text),
+        Err(error) => Err(error.at_place(None)),
+    }
+}
+
+fn printed_as(alloc: Global, text: &str, kind: As) -> Result<String, Error> {
     match kind {
         As::U8 => reread::<u8>(alloc, text),
         As::U16 => reread::<u16>(alloc, text),
@@ -276,8 +316,10 @@ fn printed(alloc: Global, text: &str, kind: As) -> Result<String, DecodeError> {
         As::Flags => reread::<BTreeMap<String, bool>>(alloc, text),
         As::Boxed => reread::<Box<Box<u16>>>(alloc, text),
         As::Pair => reread::<(u8, (String, bool))>(alloc, text),
+        As::Triple => reread::<(u8, String, bool)>(alloc, text),
         As::Unset => reread::<Unset>(alloc, text),
         As::Sample => parts_of(alloc, text),
+        As::Login => pin_of(alloc, text),
     }
 }
 
@@ -352,11 +394,11 @@ fn names_the_last_of_many(rt: HostRuntime) -> Tested {
     match decode::from_text::<Vec<u8>>(alloc, text.as_str()) {
         Ok(_read) => expect(&rt, "256", false),
         Err(error) => {
-            expect_eq(&rt, "256", error.error.pointer(), "/9999");
+            expect_eq(&rt, "256", error.pointer(), "/9999");
             expect_eq(
                 &rt,
                 "256",
-                error.place.map(|place| place.offset),
+                error.place().map(|place| place.offset),
                 Some(19_999),
             );
         }
@@ -367,15 +409,15 @@ fn names_the_last_of_many(rt: HostRuntime) -> Tested {
 /// A text that the usual reading takes and the strict and exact one doesn't, and the result.
 const USUAL: &[(&str, &str)] = rows! {
     (r#"{"a":1,"a":2}"#, r#"{"a":2}"#)
-    (r#"{"a":18446744073709551616}"#, "/a: expected an integer of which no digit may have been cut, found 18446744073709551610")
-    (r#"{"a":100.00000000000000000001}"#, "/a: expected an integer of which no digit may have been cut, found 100.00000000000000000")
+    (r#"{"a":18446744073709551616}"#, "/a: expected an integer from 0 to 18446744073709551615, found 18446744073709551610, of which digits may be cut at (1:6)")
+    (r#"{"a":100.00000000000000000001}"#, "/a: expected an integer from 0 to 18446744073709551615, found 100.00000000000000000, of which digits may be cut at (1:6)")
     (r#"{"a":1844674407370955160e1}"#, r#"{"a":18446744073709551600}"#)
-    (r#"{"a":1844674407370955161e1}"#, "/a: expected an integer of which no digit may have been cut, found 18446744073709551610")
+    (r#"{"a":1844674407370955161e1}"#, "/a: expected an integer from 0 to 18446744073709551615, found 18446744073709551610, of which digits may be cut at (1:6)")
     (r#"{"a":18446744073709551615}"#, r#"{"a":18446744073709551615}"#)
-    (r#"{"a":-1e20}"#, "/a: expected an integer from 0 to 18446744073709551615, found -1e20")
+    (r#"{"a":-1e20}"#, "/a: expected an integer from 0 to 18446744073709551615, found -1e20 at (1:6)")
 };
 
-fn usual(alloc: Global, text: &str) -> Result<String, DecodeError> {
+fn usual(alloc: Global, text: &str) -> Result<String, Error> {
     let map: BTreeMap<String, u64> = decode::from_text_as(alloc, text, &Reading::USUAL)?;
     Ok(encode::to_text(alloc, &map)?)
 }
@@ -420,34 +462,37 @@ fn raises_io_errors(rt: HostRuntime) -> Tested {
             }
         }
     }
-    let raised = io::Error::from(DecodeError::OutOfMemory);
+    let raised = io::Error::from(Error::MEMORY);
     expect_eq(&rt, "memory", raised.kind(), ErrorKind::OutOfMemory);
     Ok(())
 }
 
 /// A value, what it is read as, the number of allocations, and the pointer of the error. Each list,
-/// string and entry of a map is allocated, and so is the pointer of an error again for each step.
+/// string and entry of a map is allocated, an error, and its pointer again for each step.
 const ALLOCATING: &[(&str, As, usize, Option<&str>)] = rows! {
     (r#""abc""#, As::Text, 1, None)
-    (r#""abc""#, As::U8, 1, Some(""))
+    (r#""abc""#, As::U8, 2, Some(""))
     ("[[1],[2,3]]", As::Lists, 3, None)
-    ("[[1],[2,null]]", As::Lists, 5, Some("/1/1"))
+    ("[[1],[2,null]]", As::Lists, 6, Some("/1/1"))
+    (r#"[["01234567890123456789012345678901234567890"]]"#, As::Lists, 5, Some("/0/0"))
     (r#"{"name":"a","lists":[[1]],"price":1}"#, As::Sample, 3, None)
-    (r#"{"name":"a","lists":[["b"]],"price":1}"#, As::Sample, 7, Some("/lists/0/0"))
-    ("{}", As::Sample, 1, Some("/name"))
-    (r#"{"b":1}"#, As::Sample, 1, Some("/b"))
+    (r#"{"name":"a","lists":[["b"]],"price":1}"#, As::Sample, 8, Some("/lists/0/0"))
+    ("{}", As::Sample, 2, Some("/name"))
+    ("{}", As::Login, 3, Some("/pin"))
+    (r#"{"b":1}"#, As::Sample, 2, Some("/b"))
 };
 
-fn taken<T: FromJson>(alloc: Global, value: &JsonValue) -> Result<(), DecodeError> {
+fn taken<T: FromJson>(alloc: Global, value: &JsonValue) -> Result<(), Error> {
     let _read = T::from_json(alloc, value)?;
     Ok(())
 }
 
-fn take(alloc: Global, value: &JsonValue, kind: As) -> Result<(), DecodeError> {
+fn take(alloc: Global, value: &JsonValue, kind: As) -> Result<(), Error> {
     match kind {
         As::Text => taken::<String>(alloc, value),
         As::Lists => taken::<Vec<Vec<u16>>>(alloc, value),
         As::Sample => taken::<Sample>(alloc, value),
+        As::Login => taken::<Login>(alloc, value),
         _ => taken::<u8>(alloc, value),
     }
 }
@@ -463,15 +508,13 @@ fn run(
     refusals.begin();
     let outcome = take(rt.alloc(), value, kind);
     let has_failed = refusals.has_failed();
-    if has_failed {
-        let is_it = matches!(outcome, Err(DecodeError::OutOfMemory));
-        expect(rt, "memory", is_it);
-    } else {
-        let found = match &outcome {
-            Ok(()) => None,
-            Err(error) => Some(error.pointer()),
-        };
-        expect_eq(rt, "pointer", found, pointer);
+    match outcome {
+        Ok(()) => {
+            expect(rt, "no error", !has_failed);
+            expect_eq(rt, "pointer", None, pointer);
+        }
+        Err(error) if has_failed => expect(rt, "memory", error.is_memory()),
+        Err(error) => expect_eq(rt, "pointer", Some(error.pointer()), pointer),
     }
     Ok(has_failed)
 }

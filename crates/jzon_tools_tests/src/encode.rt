@@ -3,7 +3,7 @@
 use crate::common::{Tested, Tester, expect, expect_eq};
 use jzon::JsonValue;
 use jzon::number::Number;
-use jzon_typed::decode::{self, DecodeError, Fields, FromJson};
+use jzon_typed::decode::{self, Error, Fields, FromJson};
 use jzon_typed::encode::{self, Members, ReadsBack, ToJson};
 use std::alloc::Global;
 use std::collections::BTreeMap;
@@ -37,7 +37,7 @@ impl ToJson for Server {
 }
 
 impl FromJson for Server {
-    fn from_json(alloc: Global, value: &JsonValue) -> Result<Server, DecodeError> {
+    fn from_json(alloc: Global, value: &JsonValue) -> Result<Server, Error> {
         let server = Fields::only(alloc, value, &["host", "port", "secure"])?;
         Ok(Server {
             host: server.read("host")?,
@@ -60,7 +60,7 @@ impl ToJson for Fleet {
 }
 
 impl FromJson for Fleet {
-    fn from_json(alloc: Global, value: &JsonValue) -> Result<Fleet, DecodeError> {
+    fn from_json(alloc: Global, value: &JsonValue) -> Result<Fleet, Error> {
         let fleet = Fields::only(alloc, value, &["name", "main", "others", "limits", "owner"])?;
         Ok(Fleet {
             name: fleet.read("name")?,
@@ -157,6 +157,13 @@ fn reads_back_what_it_writes(rt: HostRuntime) -> Tested {
     reads_back(&rt, "string", &String::from_str(alloc, "é")?);
     reads_back(&rt, "box", &Box::new(alloc, 5u8)?);
     reads_back(&rt, "option", &Some(7u8));
+    reads_back(&rt, "pair", &(7u8, String::from_str(alloc, "é")?));
+    reads_back(&rt, "triple", &(7u8, true, -1i8));
+    reads_back(
+        &rt,
+        "option of a box",
+        &Some(Box::new(alloc, (true, -1i8))?),
+    );
     reads_back(&rt, "list", &vec![in alloc; None, Some(7i64)]?);
     Ok(())
 }

@@ -11,6 +11,8 @@ mod decode;
 #[cfg(test)]
 mod encode;
 #[cfg(test)]
+mod error;
+#[cfg(test)]
 mod examples;
 #[cfg(test)]
 mod locate;

@@ -2,8 +2,9 @@
 
 use crate::common::{Tested, Tester, expect, expect_eq};
 use jzon::Reading;
+use jzon_pointer::error::{Error, Expected, Found, What};
 use jzon_pointer::locate;
-use jzon_typed::decode::{DecodeError, Expected, Found};
+use std::alloc::AllocError;
 
 /// A text, a pointer, and the offset, line and column of the value that it names.
 const FOUND: &[(&str, &str, (usize, usize, usize))] = &[
@@ -21,6 +22,16 @@ const FOUND: &[(&str, &str, (usize, usize, usize))] = &[
     ("{\"\":{\"\":3}}", "//", (8, 1, 9)),
     ("{\"é\":1,\n\"日\": 2}", "/日", (16, 2, 6)),
     (
+        "{\"a\":{\"b\":1,\"b\":2},\"a\":{\"b\":[3],\"b\":[4,5]}}",
+        "/a/b/1",
+        (39, 1, 40),
+    ),
+    (
+        "{\"text\": \"No quote in these forty bytes, nor any other, and one \\\" then.\", \"a\": 1}",
+        "/a",
+        (80, 1, 81),
+    ),
+    (
         "{\n  \"servers\": [\n    {\"port\": 80},\n    {\"port\": \"80\"}\n  ]\n}",
         "/servers/1/port",
         (48, 4, 14),
@@ -36,6 +47,8 @@ const NONE: &[(&str, &str)] = &[
     ("[1,2]", "/00"),
     ("[1,2]", "/-"),
     ("[1,2]", "/18446744073709551615"),
+    ("[1,2]", "/18446744073709551616"),
+    ("[1,2]", "/100000000000000000000000000000000"),
     ("{}", "/a"),
     ("{\"a\":1}", "/b"),
     ("{\"a\":1}", "/a/b"),
@@ -90,6 +103,38 @@ fn locates(rt: HostRuntime) -> Tested {
     Ok(())
 }
 
+/// An element on a line of its own: 46 bytes, with the comma before it.
+const RECORD: &str = "\n,{\"id\": \"a \\\"b\\\"\", \"tags\": [[], {}], \"at\": 7}";
+
+/// An object that begins, and has a key twice: 11 bytes.
+const TWICE: &str = "{\"a\":0,\"a\":";
+
+fn repeated(rt: &impl Tester, text: &str, times: usize) -> Result<String, AllocError> {
+    let mut whole = String::new(rt.alloc());
+    for _ in 0..times {
+        whole.push_str(text)?;
+    }
+    Ok(whole)
+}
+
+/// In 2,000 records, and where each of 300 objects has the same key twice.
+#[test]
+fn locates_far(rt: HostRuntime) -> Tested {
+    let records = repeated(&rt, RECORD, 2000)?;
+    let list = format!(in rt.alloc(); "[0{records}]")?;
+    expect_place(&rt, list.as_str(), "/1500/at", Some((69000, 1501, 44)))?;
+    let inner = repeated(&rt, TWICE, 300)?;
+    let ends = repeated(&rt, "}", 300)?;
+    let nested = format!(in rt.alloc(); "{inner}7{ends}")?;
+    let pointer = repeated(&rt, "/a", 300)?;
+    expect_place(
+        &rt,
+        nested.as_str(),
+        pointer.as_str(),
+        Some((3300, 1, 3301)),
+    )
+}
+
 #[test]
 fn ends(rt: HostRuntime) -> Tested {
     for text in ENDS {
@@ -134,21 +179,17 @@ const PLACED: &[(&str, bool, (usize, usize))] = &[
 #[test]
 fn places_errors(rt: HostRuntime) -> Tested {
     for (path, is_missing, want) in PLACED {
-        let pointer = String::from_str(rt.alloc(), path)?;
-        let error = if *is_missing {
-            DecodeError::Missing {
-                pointer,
-                expected: Expected::Value,
-            }
+        let what = if *is_missing {
+            What::Missing(Expected::Value)
         } else {
-            DecodeError::Wrong {
-                pointer,
+            What::Wrong {
                 expected: Expected::String,
                 found: Found::Null,
             }
         };
-        let located = error.in_text(rt.alloc(), REPEATED, &Reading::USUAL);
-        let found = located.place.map(|place| (place.line, place.column));
+        let error = Error::at_pointer(rt.alloc(), path, what);
+        let placed = error.in_text(rt.alloc(), REPEATED, &Reading::USUAL);
+        let found = placed.place().map(|place| (place.line, place.column));
         expect_eq(&rt, path, found, Some(*want));
     }
     Ok(())

@@ -2,8 +2,8 @@
 
 use crate::common::{Tested, Tester, expect, expect_dump};
 use jzon::{Error, JsonValue, Result};
-use jzon_test_support::{RUNS_MAX, Refusals};
-use jzon_tools::merge::{layer, merge_patch};
+use jzon_test_support::{RUNS_MAX, Refusals, digits_below, object_text};
+use jzon_tools::merge::{self, layer, merge_patch};
 use std::alloc::Global;
 use std::test::Fail;
 
@@ -58,6 +58,39 @@ const LAYERS: &[(&str, &str, &str)] = &[
     (r#"{"a":1}"#, "{}", r#"{"a":1}"#),
 ];
 
+/// Two values, and the merge patch that turns the first into the second. It is empty where there is
+/// none: in a patch null removes.
+const DIFFS: &[(&str, &str, &str)] = &[
+    (r#"{"a":"b"}"#, r#"{"a":"c"}"#, r#"{"a":"c"}"#),
+    (r#"{"a":"b"}"#, r#"{"a":"b","b":"c"}"#, r#"{"b":"c"}"#),
+    (r#"{"a":"b","b":"c"}"#, r#"{"b":"c"}"#, r#"{"a":null}"#),
+    (r#"{"a":["b"]}"#, r#"{"a":["b","c"]}"#, r#"{"a":["b","c"]}"#),
+    (
+        r#"{"a":{"b":"c","d":1}}"#,
+        r#"{"a":{"b":"d","d":1.0}}"#,
+        r#"{"a":{"b":"d"}}"#,
+    ),
+    (r#"{"a":1,"b":2}"#, r#"{"b":2,"a":1}"#, "{}"),
+    (r#"{"e":null}"#, r#"{"e":null,"a":1}"#, r#"{"a":1}"#),
+    (
+        r#"{"a":{"b":1,"c":{"d":null}}}"#,
+        r#"{"a":{"c":{"d":null}}}"#,
+        r#"{"a":{"b":null}}"#,
+    ),
+    (r#"["a"]"#, r#"{"a":{"b":{}}}"#, r#"{"a":{"b":{}}}"#),
+    (
+        r#"{"a":[],"b":{}}"#,
+        r#"{"a":{},"b":[]}"#,
+        r#"{"a":{},"b":[]}"#,
+    ),
+    ("{}", r#"{"a":[{"b":null}]}"#, r#"{"a":[{"b":null}]}"#),
+    (r#"{"a":1}"#, "null", "null"),
+    (r#"{"a":1}"#, r#"{"a":null}"#, ""),
+    ("{}", r#"{"a":{"b":null}}"#, ""),
+    (r#"{"a":{"b":null}}"#, r#"{"a":{"b":{"c":null}}}"#, ""),
+    (r#"[{"a":null}]"#, r#"{"a":null}"#, ""),
+];
+
 #[derive(Clone, Copy)]
 enum Call {
     MergePatch,
@@ -80,6 +113,19 @@ fn patched(alloc: Global, target: &str, patch: &str) -> Result<JsonValue> {
     Ok(target)
 }
 
+/// The patch between the values of two texts. It has been applied.
+fn turned(rt: &impl Tester, from: &str, to: &str) -> Result<Option<JsonValue>> {
+    let alloc = rt.alloc();
+    let mut old = jzon::parse(alloc, from)?;
+    let new = jzon::parse(alloc, to)?;
+    let patch = merge::diff(alloc, &old, &new)?;
+    if let Some(patch) = &patch {
+        merge_patch(alloc, &mut old, patch)?;
+        expect(rt, to, old == new);
+    }
+    Ok(patch)
+}
+
 fn layered(alloc: Global, base: &str, later: &str) -> Result<JsonValue> {
     let mut base = jzon::parse(alloc, base)?;
     let later = jzon::parse(alloc, later)?;
@@ -91,6 +137,32 @@ fn layered(alloc: Global, base: &str, later: &str) -> Result<JsonValue> {
 fn patches(rt: HostRuntime) -> Tested {
     for (target, patch, after) in PATCHES {
         expect_dump(&rt, &patched(rt.alloc(), target, patch)?, after);
+    }
+    Ok(())
+}
+
+/// A patch that removes 3,000 entries, leaves the first, replaces the last, and puts a new one.
+#[test]
+fn removes_many(rt: HostRuntime) -> Tested {
+    let alloc = rt.alloc();
+    let keys = digits_below(alloc, 3_002)?;
+    let mut target = jzon::parse(alloc, object_text(alloc, keys.as_slice())?.as_str())?;
+    let mut patch = target.clone(alloc)?;
+    patch.remove("0");
+    patch.insert(alloc, "3001", 7u8)?;
+    patch.insert(alloc, "new", true)?;
+    merge_patch(alloc, &mut target, &patch)?;
+    expect_dump(&rt, &target, r#"{"0":null,"3001":7,"new":true}"#);
+    Ok(())
+}
+
+#[test]
+fn diffs(rt: HostRuntime) -> Tested {
+    for (old, new, text) in DIFFS {
+        match turned(&rt, old, new)? {
+            Some(patch) => expect_dump(&rt, &patch, text),
+            None => expect(&rt, new, text.is_empty()),
+        }
     }
     Ok(())
 }

@@ -5,8 +5,9 @@ use Change::{Insert, Remove, Replace, Update};
 use jzon::JsonValue;
 use jzon_pointer::PointerError::{Missing, NoSlash, WholeValue};
 use jzon_pointer::Reason::{BadEscape, NoChildren, NoMember, NotAnIndex, OutOfRange};
+use jzon_pointer::error::{Error, What};
 use jzon_pointer::shown::ShownPointer;
-use jzon_pointer::{InPointer, PointerError, Primitive, Reason};
+use jzon_pointer::{PointerError, Primitive, Reason};
 use jzon_test_support::{RUNS_MAX, Refusals, joined, rows};
 use jzon_tools::edit;
 use std::io::{self, ErrorKind};
@@ -66,22 +67,37 @@ fn finds(rt: HostRuntime) -> Tested {
     for (path, text) in FOUND {
         let found = jzon_pointer::get(&value, path).ok_or("no value")?;
         expect_dump(&rt, found, text);
-        expect(&rt, path, jzon_pointer::find(&value, path) == Ok(found));
+        expect(
+            &rt,
+            path,
+            jzon_pointer::find(rt.alloc(), &value, path) == Ok(found),
+        );
+        expect(&rt, path, jzon_pointer::seek(&value, path) == Ok(found));
     }
     Ok(())
 }
 
+/// The pointer's error is this one, and no other.
+fn expect_lost(rt: &impl Tester, path: &str, found: Option<Error>, error: PointerError) {
+    let want = Error::at_pointer(rt.alloc(), path, What::Pointer(error));
+    expect(rt, path, found == Some(want));
+}
+
 /// No call finds a value, and none changes one.
 fn expect_missing(rt: &impl Tester, value: &mut JsonValue, path: &str, error: PointerError) {
-    let found = jzon_pointer::find(value, path).map(|_| ());
+    let alloc = rt.alloc();
+    let found = jzon_pointer::seek(value, path).map(|_| ());
     expect_eq(rt, path, found, Err(error));
+    expect_lost(
+        rt,
+        path,
+        jzon_pointer::find(alloc, value, path).err(),
+        error,
+    );
     expect(rt, path, jzon_pointer::get(value, path).is_none());
-    let updated = edit::update(value, path, |place| *place = JsonValue::Null);
-    expect_eq(rt, path, updated, Err(error));
-    let replaced = edit::replace(value, path, JsonValue::Null).map(drop);
-    expect_eq(rt, path, replaced, Err(error));
-    let removed = edit::remove(value, path).map(drop);
-    expect_eq(rt, path, removed, Err(error));
+    for change in [Update, Replace, Remove] {
+        expect_lost(rt, path, changed(rt, change, value, path).err(), error);
+    }
     expect_dump(rt, value, TEXT);
 }
 
@@ -115,13 +131,14 @@ fn changed(
     change: Change,
     value: &mut JsonValue,
     path: &str,
-) -> Result<JsonValue, PointerError> {
+) -> Result<JsonValue, Error> {
+    let alloc = rt.alloc();
     let new = JsonValue::from(9u8);
     match change {
-        Replace => edit::replace(value, path, new),
-        Insert => edit::insert(rt.alloc(), value, path, new).map(|_| JsonValue::Null),
-        Remove => edit::remove(value, path),
-        Update => edit::update(value, path, |place| {
+        Replace => edit::replace(alloc, value, path, new),
+        Insert => edit::insert(alloc, value, path, new).map(|_| JsonValue::Null),
+        Remove => edit::remove(alloc, value, path),
+        Update => edit::update(alloc, value, path, |place| {
             *place = new;
             JsonValue::Null
         }),
@@ -163,7 +180,7 @@ fn changes(rt: HostRuntime) -> Tested {
         let mut value = jzon::parse(rt.alloc(), before)?;
         match changed(&rt, *change, &mut value, path) {
             Ok(result) => expect_dump(&rt, &result, returned),
-            Err(error) => expect_eq(&rt, path, Some(error), None),
+            Err(_error) => expect(&rt, path, false),
         }
         expect_dump(&rt, &value, after);
     }
@@ -192,8 +209,8 @@ const FAILED: &[(Change, &str, &str, PointerError)] = rows! {
 fn changes_nothing_after_an_error(rt: HostRuntime) -> Tested {
     for (change, before, path, error) in FAILED {
         let mut value = jzon::parse(rt.alloc(), before)?;
-        let outcome = changed(&rt, *change, &mut value, path).map(drop);
-        expect_eq(&rt, path, outcome, Err(*error));
+        let found = changed(&rt, *change, &mut value, path).err();
+        expect_lost(&rt, path, found, *error);
         expect_dump(&rt, &value, before);
     }
     Ok(())
@@ -203,32 +220,15 @@ fn changes_nothing_after_an_error(rt: HostRuntime) -> Tested {
 #[test]
 fn updates(rt: HostRuntime) -> Tested {
     let mut value = jzon::parse(rt.alloc(), r#"{"items":[{"count":3},{"count":20}]}"#)?;
-    let old = edit::update(&mut value, "/items/1/count", |count| {
+    let old = edit::update(rt.alloc(), &mut value, "/items/1/count", |count| {
         let old = count.as_u32().unwrap_or(0);
         *count = JsonValue::from(u64::from(old) * 2);
         old
-    });
-    expect_eq(&rt, "old", old, Ok(20));
+    })?;
+    expect_eq(&rt, "old", old, 20);
     expect_dump(&rt, &value, r#"{"items":[{"count":3},{"count":40}]}"#);
     Ok(())
 }
-
-/// The words of each error.
-const WORDS: &[(PointerError, &str)] = rows! {
-    (NoSlash, "The pointer begins with no /")
-    (Missing { start: 8, end: 10, reason: BadEscape }, "At byte 8 of the pointer: ~ without 0 or 1 after it")
-    (Missing { start: 1, end: 4, reason: NoMember }, "At byte 1 of the pointer: no such key")
-    (Missing { start: 3, end: 3, reason: NotAnIndex }, "At byte 3 of the pointer: not an index of an array")
-    (Missing { start: 1, end: 2, reason: OutOfRange { length: 0 } }, "At byte 1 of the pointer: the array has 0 elements")
-    (Missing { start: 1, end: 2, reason: OutOfRange { length: 1 } }, "At byte 1 of the pointer: the array has 1 element")
-    (Missing { start: 12, end: 13, reason: OutOfRange { length: 30 } }, "At byte 12 of the pointer: the array has 30 elements")
-    (Missing { start: 1, end: 2, reason: NoChildren(Primitive::Null) }, "At byte 1 of the pointer: null has no members")
-    (Missing { start: 1, end: 2, reason: NoChildren(Primitive::Boolean) }, "At byte 1 of the pointer: a boolean has no members")
-    (Missing { start: 1, end: 2, reason: NoChildren(Primitive::Number) }, "At byte 1 of the pointer: a number has no members")
-    (Missing { start: 1, end: 2, reason: NoChildren(Primitive::String) }, "At byte 1 of the pointer: a string has no members")
-    (WholeValue, "The pointer names the whole value")
-    (PointerError::OutOfMemory, "Out of memory")
-};
 
 /// A value, a pointer that names nothing there, and the words of the error with the pointer.
 const POINTED: &[(&str, &str, &str)] = rows! {
@@ -252,60 +252,45 @@ const POINTED: &[(&str, &str, &str)] = rows! {
 
 #[test]
 fn shows_errors_in_pointers(rt: HostRuntime) -> Tested {
+    let alloc = rt.alloc();
     for (text, path, words) in POINTED {
-        let value = jzon::parse(rt.alloc(), text)?;
-        if let Err(error) = jzon_pointer::find(&value, path) {
-            expect_words(&rt, error.in_pointer(path), words)?;
-        } else {
-            expect(&rt, path, false);
+        let value = jzon::parse(alloc, text)?;
+        match jzon_pointer::find(alloc, &value, path) {
+            Ok(_found) => expect(&rt, path, false),
+            Err(error) => expect_words(&rt, error, words)?,
         }
     }
-    let whole = edit::remove(&mut JsonValue::Null, "").map(drop);
-    expect_eq(&rt, "whole", whole, Err(WholeValue));
-    expect_words(
-        &rt,
-        WholeValue.in_pointer(""),
-        "The pointer names the whole value",
-    )?;
-    expect_words(
-        &rt,
-        PointerError::OutOfMemory.in_pointer("/a"),
-        "Out of memory",
-    )?;
-    // Neither position is one of a character of these pointers.
-    let error = missing(3, 9, NoMember);
-    expect_words(&rt, error.in_pointer("/é"), "/é: /é has no key \"\"")?;
-    expect_words(&rt, error.in_pointer("é"), "é: é has no key \"\"")
+    for (path, lost, words) in LOST {
+        let error = Error::at_pointer(alloc, path, What::Pointer(*lost));
+        expect_words(&rt, error, words)?;
+    }
+    expect_words(&rt, Error::MEMORY, "Out of memory")
 }
 
-/// Its words, also as those of an `io::Error`.
-fn expect_words(rt: &impl Tester, error: InPointer<'_>, words: &str) -> Tested {
+/// A pointer, its error, and the words. Neither position is one of a character of the last two.
+const LOST: &[(&str, PointerError, &str)] = rows! {
+    ("", WholeValue, "the pointer names the whole value")
+    ("/é", Missing { start: 3, end: 9, reason: NoMember }, "/é: /é has no key \"\"")
+    ("é", Missing { start: 3, end: 9, reason: NoMember }, "é: é has no key \"\"")
+};
+
+/// Its words, also as those of an `io::Error`, and the kind.
+fn expect_words(rt: &impl Tester, error: Error, words: &str) -> Tested {
     let text = format!(in rt.alloc(); "{error}")?;
     expect_eq(rt, words, text.as_str(), words);
+    let kind = match error.is_memory() {
+        true => ErrorKind::OutOfMemory,
+        false => ErrorKind::InvalidData,
+    };
     let raised = io::Error::from(error);
     let message = format!(in rt.alloc(); "{raised}")?;
     expect_eq(rt, words, message.as_str(), words);
+    expect_eq(rt, words, raised.kind(), kind);
     Ok(())
 }
 
-#[test]
-fn shows_errors(rt: HostRuntime) -> Tested {
-    for (error, words) in WORDS {
-        let text = format!(in rt.alloc(); "{error}")?;
-        expect_eq(&rt, words, text.as_str(), *words);
-        let raised = io::Error::from(*error);
-        let message = format!(in rt.alloc(); "{raised}")?;
-        expect_eq(&rt, words, message.as_str(), *words);
-        let kind = match error {
-            PointerError::OutOfMemory => ErrorKind::OutOfMemory,
-            _ => ErrorKind::InvalidData,
-        };
-        expect_eq(&rt, words, raised.kind(), kind);
-    }
-    Ok(())
-}
-
-/// A message has 40 characters of a token, and 200 of a pointer.
+/// A message has 40 characters of a token, and of a pointer at most 200 bytes: 50 characters of two
+/// bytes at both ends.
 #[test]
 fn cuts_long_tokens_and_pointers(rt: HostRuntime) -> Tested {
     let alloc = rt.alloc();
@@ -320,24 +305,24 @@ fn cuts_long_tokens_and_pointers(rt: HostRuntime) -> Tested {
         alloc,
         &[
             ("/", 1),
-            ("é", 99),
+            ("é", 49),
             ("..", 1),
-            ("b", 58),
+            ("b", 8),
             ("/", 1),
             ("c", 41),
         ],
     )?;
     expect_eq(&rt, path, shown.as_str(), want.as_str());
-    if let Err(error) = jzon_pointer::find(&value, path) {
-        let message = format!(in alloc; "{}", error.in_pointer(path))?;
+    if let Err(error) = jzon_pointer::find(alloc, &value, path) {
+        let message = format!(in alloc; "{error}")?;
         let want = format!(in alloc; "{want}: the whole value is null and has no members")?;
         expect_eq(&rt, path, message.as_str(), want.as_str());
     }
     let value = jzon::parse(alloc, "{}")?;
     let path = joined(alloc, &[("/", 1), ("c", 41)])?;
     let path = path.as_str();
-    if let Err(error) = jzon_pointer::find(&value, path) {
-        let message = format!(in alloc; "{}", error.in_pointer(path))?;
+    if let Err(error) = jzon_pointer::find(alloc, &value, path) {
+        let message = format!(in alloc; "{error}")?;
         let token = joined(alloc, &[("c", 40), ("..", 1)])?;
         let want = format!(in alloc; "{path}: the whole value has no key \"{token}\"")?;
         expect_eq(&rt, path, message.as_str(), want.as_str());
@@ -401,10 +386,10 @@ fn run(
     let outcome = edit::insert(rt.alloc(), &mut value, path, JsonValue::from(9u8));
     let has_failed = refusals.has_failed();
     if has_failed {
-        expect_eq(rt, path, outcome, Err(PointerError::OutOfMemory));
+        expect(rt, path, outcome == Err(Error::MEMORY));
         expect(rt, path, value == *before);
     } else {
-        expect_eq(rt, path, outcome, Ok(()));
+        expect(rt, path, outcome == Ok(()));
         expect(rt, path, value != *before);
     }
     Ok(has_failed)

@@ -1,6 +1,5 @@
 pub mod DecodeMapSteps
 pub mod DecodeSteps
-pub mod DecodeTexts
 pub mod DecodeViews
 pub mod EqualIntegers
 pub mod FieldSteps

@@ -1,6 +1,6 @@
 -- What is written of a value is taken, and gives only results equal to it. (These are proofs; they are here because the
 -- laws of `ReadsBack` cite them.)
-use Rattle.std.specs.Prelude.{refl, List, [], ◌∷◌, string_bytes, ◌≡◌, ◌<◌, ◌*◌, ◌^◌, ℕ, zero, suc, ℤ, pos, negsuc, neg_ℤ, Bool, true, false, Option, None, Some, is_some, IsSome, MatchOption, ◌⊎◌, FitsSigned, nat_eq, slice_get}
+use Rattle.std.specs.Prelude.{refl, List, [], ◌∷◌, string_bytes, ◌≡◌, ◌<◌, ◌*◌, ◌^◌, ℕ, zero, suc, ℤ, pos, negsuc, neg_ℤ, Bool, true, false, ◌&&◌, Option, None, Some, is_some, IsSome, MatchOption, ◌⊎◌, FitsSigned, nat_eq, slice_get}
 use Rattle.std.specs.Cmp.Lexicographic.{pointwise}
 use Rattle.std.specs.List.{AllZip}
 use Rattle.std.specs.Option.{option_eq}
@@ -19,14 +19,14 @@ use Rattle.std.specs.declared.string.String.{String}
 use Rattle.jzon.specs.Decimal.{Decimal, integer_parts, same_decimal}
 use Rattle.jzon.specs.IntoJson.{ListMeans, OptionMeans}
 use Rattle.jzon.specs.JsonValue.{JsonValue}
-use Rattle.jzon.specs.Readers.{entries, is_array, items, number_in, text_in, truth_in}
+use Rattle.jzon.specs.Readers.{count, entries, is_array, items, number_in, text_in, truth_in}
 use Rattle.jzon.specs.PairList.{find}
 use Rattle.jzon.specs.Same.{same}
 use Rattle.jzon.specs.SameLaws.{same_equiv}
 use Rattle.jzon.specs.Value.{Kind, Value, null, array, boolean, kind_of, number, text, list_of_values, values_of}
 use Rattle.jzon.specs.View.{view}
 use Rattle.jzon_typed.specs.DecodeFields.{HasEntry}
-use Rattle.jzon_typed.specs.DecodeMaps.{TakesItems}
+use Rattle.jzon_typed.specs.DecodeMaps.{IsArrayOf, ReadsItem, TakesItem, TakesItems}
 use Rattle.jzon_typed.specs.Integers.{may_be_cut, may_be_cut_in, natural_in, whole_in, IsNatural, IsNaturalBelow, IsWhole, IsWholeOf}
 
 -- of what a boolean is written as, only an equal one is read
@@ -154,6 +154,75 @@ module _ {X : Type 0} (S : X → Value → Type 0) where
   taken-option P taken None v s = inl s
   taken-option P taken (Some x) v s = inr (taken x v s)
 
+-- ---- pairs
+
+-- what the element at an index shows is taken
+item-taken : {X : Type 0} (S : X → Value → Type 0) (P : Value → Type 0) → ((x : X) (v : Value) → S x v → P v) → (x : X)
+    (v w : Value) (vs : List Value) (i : ℕ) → v ≡ array (values_of vs) → slice_get vs i ≡ Some w → S x w
+    → TakesItem v i P
+item-taken S P taken x v w vs i is at shown =
+    (w, ap (λ l. slice_get l i) (ap items is ∙ items-of vs) ∙ at, taken x w shown)
+
+-- and gives only results equal to it
+item-back : {X : Type 0} (S : X → Value → Type 0) (G : Value → X → Type 0) (E : X → X → Bool)
+    → ((x y : X) (v : Value) → S x v → G v y → E y x ≡ true) → (x y : X) (v w : Value) (vs : List Value) (i : ℕ)
+    → v ≡ array (values_of vs) → slice_get vs i ≡ Some w → S x w → ReadsItem v i G y → E y x ≡ true
+item-back S G E back x y v w vs i is at shown (u, there, given) =
+    let here : slice_get (items v) i ≡ Some w = ap (λ l. slice_get l i) (ap items is ∙ items-of vs) ∙ at in
+    back x y w shown (subst (λ k. G k y) (same_Some u w (sym there ∙ here)) given)
+
+module _ {X Y : Type 0} (S : X → Value → Type 0) (T : Y → Value → Type 0) where
+  -- of a pair, if it holds of both
+  pub back-pair : (G : Value → X → Type 0) (E : X → X → Bool) → ((x y : X) (v : Value) → S x v → G v y → E y x ≡ true)
+      → (H : Value → Y → Type 0) (F : Y → Y → Bool) → ((x y : Y) (v : Value) → T x v → H v y → F y x ≡ true)
+      → (p q : X × Y) (v : Value)
+      → (x y : Value) × S p.0 x × T p.1 y × (v ≡ array (values_of (x ∷ y ∷ [])))
+      → IsArrayOf 2 v × ReadsItem v 0 G q.0 × ReadsItem v 1 H q.1 → (E q.0 p.0 && F q.1 p.1) ≡ true
+  back-pair G E back H F back' p q v (x, y, s, t, is) (two, g, h) =
+      and_from (E q.0 p.0) (F q.1 p.1) (item-back S G E back p.0 q.0 v x (x ∷ y ∷ []) 0 is refl s g)
+      (item-back T H F back' p.1 q.1 v y (x ∷ y ∷ []) 1 is refl t h)
+
+  -- and one is read
+  pub taken-pair : (P : Value → Type 0) → ((x : X) (v : Value) → S x v → P v) → (Q : Value → Type 0)
+      → ((x : Y) (v : Value) → T x v → Q v) → (p : X × Y) (v : Value)
+      → (x y : Value) × S p.0 x × T p.1 y × (v ≡ array (values_of (x ∷ y ∷ [])))
+      → IsArrayOf 2 v × TakesItem v 0 P × TakesItem v 1 Q
+  taken-pair P taken Q taken' p v (x, y, s, t, is) = (
+    (ap is_array is, ap count is),
+    item-taken S P taken p.0 v x (x ∷ y ∷ []) 0 is refl s,
+    item-taken T Q taken' p.1 v y (x ∷ y ∷ []) 1 is refl t,
+  )
+
+module _ {X Y Z : Type 0} (S : X → Value → Type 0) (T : Y → Value → Type 0) (U : Z → Value → Type 0) where
+  -- of a triple, if it holds of all three
+  pub back-triple : (G : Value → X → Type 0) (E : X → X → Bool) → ((x y : X) (v : Value) → S x v → G v y → E y x ≡ true)
+      → (H : Value → Y → Type 0) (F : Y → Y → Bool) → ((x y : Y) (v : Value) → T x v → H v y → F y x ≡ true)
+      → (I : Value → Z → Type 0) (D : Z → Z → Bool) → ((x y : Z) (v : Value) → U x v → I v y → D y x ≡ true)
+      → (p q : X × Y × Z) (v : Value)
+      → (x y z : Value) × S p.0 x × T p.1 y × U p.2 z × (v ≡ array (values_of (x ∷ y ∷ z ∷ [])))
+      → IsArrayOf 3 v × ReadsItem v 0 G q.0 × ReadsItem v 1 H q.1 × ReadsItem v 2 I q.2
+      → ((E q.0 p.0 && F q.1 p.1) && D q.2 p.2) ≡ true
+  back-triple G E one H F two I D three p q v (x, y, z, s, t, u, is) (len, g, h, i) =
+      let vs = x ∷ y ∷ z ∷ [] in
+      and_from (E q.0 p.0 && F q.1 p.1) (D q.2 p.2)
+      (and_from (E q.0 p.0) (F q.1 p.1) (item-back S G E one p.0 q.0 v x vs 0 is refl s g)
+      (item-back T H F two p.1 q.1 v y vs 1 is refl t h))
+      (item-back U I D three p.2 q.2 v z vs 2 is refl u i)
+
+  -- and one is read
+  pub taken-triple : (P : Value → Type 0) → ((x : X) (v : Value) → S x v → P v) → (Q : Value → Type 0)
+      → ((x : Y) (v : Value) → T x v → Q v) → (R : Value → Type 0) → ((x : Z) (v : Value) → U x v → R v)
+      → (p : X × Y × Z) (v : Value)
+      → (x y z : Value) × S p.0 x × T p.1 y × U p.2 z × (v ≡ array (values_of (x ∷ y ∷ z ∷ [])))
+      → IsArrayOf 3 v × TakesItem v 0 P × TakesItem v 1 Q × TakesItem v 2 R
+  taken-triple P one Q two R three p v (x, y, z, s, t, u, is) =
+      let vs = x ∷ y ∷ z ∷ [] in (
+        (ap is_array is, ap count is),
+        item-taken S P one p.0 v x vs 0 is refl s,
+        item-taken T Q two p.1 v y vs 1 is refl t,
+        item-taken U R three p.2 v z vs 2 is refl u,
+      )
+
 -- ---- what isn't null
 
 abbrev is_not_null : Value → Bool
@@ -175,9 +244,13 @@ no-boolean b = null-not (boolean b) refl
 pub no-text : (k : Kind) (s : List ℕ) → null ≡ text k s → ⊥
 no-text k s = null-not (text k s) refl
 
--- nor an array
+-- nor an array, and so neither a pair nor a triple
+pub no-array : (vs : List Value) → null ≡ array (values_of vs) → ⊥
+no-array vs = null-not (array (values_of vs)) refl
+
+-- nor what a list means
 pub no-list : {X : Type 0} (S : X → Value → Type 0) (xs : List X) → ListMeans S xs null → ⊥
-no-list S xs (vs, is, each) = null-not (array (values_of vs)) refl is
+no-list S xs (vs, is, each) = no-array vs is
 
 -- ---- the entries of an object
 

@@ -4,9 +4,9 @@ use Rattle.std.specs.Int.{w8, w16, w32, w64}
 use Rattle.jzon.specs.Decimal.{SomeWhere}
 use Rattle.jzon.specs.Readers.{count, exact_fixed_point_in, is_array, is_object, number_in, text_in, truth_in}
 use Rattle.jzon.specs.Value.{Value}
-use Rattle.jzon_typed.specs.Integers.{may_be_cut_in, natural_in, whole_in}
-use Rattle.jzon_typed.specs.declared.decode.error.Expected.{Expected}
-use Rattle.jzon_typed.specs.declared.decode.error.Expected.TheVariants.{Value as Anything, String, Boolean, Number, Array, Object, U8, U16, U32, U64, I8, I16, I32, I64, Fixed, AtMost, Above, Exactly, Whole, Other}
+use Rattle.jzon_typed.specs.Integers.{natural_in, whole_in}
+use Rattle.jzon_pointer.specs.declared.error.parts.Expected.{Expected}
+use Rattle.jzon_pointer.specs.declared.error.parts.Expected.TheVariants.{Value as Anything, String, Boolean, Number, Array, Object, U8, U16, U32, U64, I8, I16, I32, I64, Fixed, AtMost, Above, Exactly, Other}
 
 -- the value isn't what is expected: the reader of this kind returns `None`
 abbrev pub Refuses : Expected → Value → Type 0
@@ -28,5 +28,4 @@ Refuses (Fixed point) v = SomeWhere (exact_fixed_point_in v point) (FitsSigned w
 Refuses (AtMost most) v = most < count v
 Refuses (Above n) v = count v ≤ n
 Refuses (Exactly n) v = (is_array v ≡ true) × (count v ≡ n) → ⊥
-Refuses Whole v = may_be_cut_in v ≡ true
 Refuses (Other words) v = ⊤

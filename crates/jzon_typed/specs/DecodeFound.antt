@@ -3,8 +3,8 @@ use Rattle.std.specs.Prelude.{◌≡◌, ◌<◌, ◌≤◌, ℕ, List, Bool, So
 use Rattle.jzon.specs.Decimal.{Decimal}
 use Rattle.jzon.specs.Readers.{count, is_array, is_object, text_in}
 use Rattle.jzon.specs.Value.{Value, null, boolean, number}
-use Rattle.jzon_typed.specs.declared.decode.error.Found.{Found}
-use Rattle.jzon_typed.specs.declared.decode.error.Found.TheVariants.{Null, Boolean, Number, String, LongString, Array, Object, Hidden}
+use Rattle.jzon_pointer.specs.declared.error.parts.Found.{Found}
+use Rattle.jzon_pointer.specs.declared.error.parts.Found.TheVariants.{Null, Boolean, Number, String, LongString, Array, Object, Hidden}
 use Rattle.jzon_pointer.specs.declared.pointer.Primitive.{Primitive}
 use Rattle.jzon_pointer.specs.declared.pointer.Primitive.TheVariants as primitive
 

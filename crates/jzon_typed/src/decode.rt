@@ -7,25 +7,23 @@
 ghost use Rattle.std.specs.Prelude.{chars, IfOk, IfErr, IsOkUnless};
 ghost use Rattle.jzon.specs.Value.{Value};
 ghost use Rattle.jzon.specs.View.{view};
-ghost use Rattle.jzon_typed.specs.Decode.{IsErrorIn, IsLocatedIn, MeansSome};
+ghost use Rattle.jzon_pointer.specs.Errors.{memory};
+ghost use Rattle.jzon_typed.specs.Decode.{IsErrorIn, IsErrorOfText, MeansSome};
 ghost use Rattle.jzon.specs.Reading.{strict_exact};
 ghost use Rattle.jzon_typed.specs.Integers.{EqualIntegers};
-ghost use Rattle.jzon_typed.specs.declared.decode.error.DecodeError.TheVariants.{OutOfMemory};
 
 mod elements;
-mod error;
 mod fields;
 mod impls;
-mod located;
-mod path;
+mod wrong;
 
 pub use elements::element;
-pub use error::{DecodeError, Expected, Found, Known, LONGEST};
 pub use fields::Fields;
 use jzon::{JsonValue, Reading, parse_located};
-pub use located::LocatedDecodeError;
+pub use jzon_pointer::error::{Error, Expected, Found, Known, What};
 use std::alloc::Global;
 use std::result::Result;
+pub use wrong::{LONGEST, expected};
 
 /// Types that are read from a value. An implementation may say by the relation `gives` which results
 /// a value gives, and by `takes` which values are read, want of memory aside; one that says nothing
@@ -33,7 +31,7 @@ use std::result::Result;
 ///
 /// ```rust
 /// impl FromJson for Server {
-///     fn from_json(alloc: Global, value: &JsonValue) -> Result<Server, DecodeError> {
+///     fn from_json(alloc: Global, value: &JsonValue) -> Result<Server, Error> {
 ///         let server = Fields::only(alloc, value, &["host", "port", "tags"])?;
 ///         Ok(Server {
 ///             host: server.read("host")?,
@@ -49,29 +47,26 @@ pub trait FromJson: Drop {
     ghost takes: { Value → Type 0 } = { λ _. ⊥ };
 
     /// The value as this type. The pointer of an error leads from this value.
-    fn from_json(alloc: Global, value: &JsonValue) -> Result<Self, DecodeError>
+    fn from_json(alloc: Global, value: &JsonValue) -> Result<Self, Error>
         ensures value { IfOk result (gives (view value.now)) }
         ensures error { IfErr result (IsErrorIn (view value.now)) }
-        ensures takes { takes (view value.now) → IsOkUnless result OutOfMemory };
+        ensures takes { takes (view value.now) → IsOkUnless result memory };
 }
 
 /// The value that a text means, as this type. The text is read strictly and exactly: a repeated key,
-/// and a number that a `Number` can't have exactly, are errors. Each error has its line and column.
-pub fn from_text<T: FromJson>(alloc: Global, text: &str) -> Result<T, LocatedDecodeError>
+/// and a number that would be cut or clamped to another value, are errors. Each error has its line and column.
+pub fn from_text<T: FromJson>(alloc: Global, text: &str) -> Result<T, Error>
     ensures value { IfOk result (λ x. MeansSome strict_exact (chars text.now) (λ v. T.gives v x)) }
-    ensures error { IfErr result (IsLocatedIn strict_exact text.now) }
+    ensures error { IfErr result (IsErrorOfText strict_exact text.now) }
 {
     from_text_as(alloc, text, &Reading::LOSSLESS)
 }
 
 /// The value that a text means by `reading`, as this type.
-pub fn from_text_as<T: FromJson>(
-    alloc: Global,
-    text: &str,
-    reading: &Reading,
-) -> Result<T, LocatedDecodeError>
+#[tactic(auto, using(crate::proofs::DecodeSteps::of_text))]
+pub fn from_text_as<T: FromJson>(alloc: Global, text: &str, reading: &Reading) -> Result<T, Error>
     ensures value { IfOk result (λ x. MeansSome reading.now (chars text.now) (λ v. T.gives v x)) }
-    ensures error { IfErr result (IsLocatedIn reading.now text.now) }
+    ensures error { IfErr result (IsErrorOfText reading.now text.now) }
 {
     let value = parse_located(alloc, text, reading)?;
     match T::from_json(alloc, &value) {

@@ -25,7 +25,7 @@ use std::alloc::Global;
 /// what is between is changed, and then cut or added to. Anything else that differs is replaced, as
 /// are values at a path of more than 512 bytes.
 ///
-/// Takes time in proportion to both values, and memory for the patch: at most about 700 bytes for each
+/// Takes time in proportion to both values, and memory for the patch: at most about 1,500 bytes for each
 /// operation, beside the new values and the keys that it has. Goes at most 513 levels deep;
 /// below, it only compares and clones.
 ///
@@ -94,6 +94,7 @@ impl Changes {
         Ok(())
     }
 
+    /// Adds the operations that change the entries of one object to those of another.
     #[cycle(diff)]
     fn members(&mut self, from: &Object, to: &Object, compared: bool) -> Result<()>
         ensures ok { OnOk result (AddsChanges (string_bytes self.old.path) (view_object from.now)
@@ -142,6 +143,7 @@ impl Changes {
         Ok(())
     }
 
+    /// Adds the operations that change the elements of one array to those of another.
     #[cycle(diff)]
     fn elements(&mut self, from: &[JsonValue], to: &[JsonValue], compared: bool) -> Result<()>
         ensures ok { OnOk result (AddsChanges (string_bytes self.old.path)
@@ -180,6 +182,7 @@ impl Changes {
         Ok(())
     }
 
+    /// Adds the operations that change one element.
     #[cycle(diff)]
     fn element(
         &mut self,
@@ -291,6 +294,7 @@ fn common(from: &[JsonValue], to: &[JsonValue]) -> (usize, usize)
     )
 }
 
+/// How many elements at the beginning are equal.
 fn common_start(from: &[JsonValue], to: &[JsonValue]) -> usize
     ensures room { (result ≤ length from.now) × (result ≤ length to.now) }
     ensures same { AllSame (take result (map view from.now)) (take result (map view to.now)) }
@@ -304,6 +308,7 @@ fn common_start(from: &[JsonValue], to: &[JsonValue]) -> usize
     most
 }
 
+/// How many elements at the end are equal, up to `most`.
 fn common_end(from: &[JsonValue], to: &[JsonValue], most: usize) -> usize
     requires most { (most ≤ length from.now) × (most ≤ length to.now) }
     ensures room { result ≤ most }

@@ -2,11 +2,12 @@
 
 ghost use Rattle.std.specs.Prelude.{◌≡◌, true, IfOk, IfErr, IsOk, IsOkUnless};
 ghost use Rattle.jzon.specs.View.{view};
+ghost use Rattle.jzon_pointer.specs.Errors.{memory};
 ghost use Rattle.jzon_typed.specs.Decode.{IsErrorIn};
 ghost use Rattle.jzon_typed.specs.DecodeMaps.{IsArrayOf, ReadsItem, TakesItem};
-ghost use Rattle.jzon_typed.specs.declared.decode.error.DecodeError.TheVariants.{OutOfMemory};
 
-use super::{DecodeError, Expected, FromJson};
+use super::wrong::wrong;
+use super::{Error, Expected, FromJson};
 use jzon::JsonValue;
 use std::alloc::Global;
 use std::result::Result;
@@ -17,20 +18,16 @@ use std::result::Result;
 /// ```rust
 /// let from: u8 = decode::element(alloc, &value, 0)?;
 /// ```
-pub fn element<T: FromJson>(
-    alloc: Global,
-    value: &JsonValue,
-    index: usize,
-) -> Result<T, DecodeError>
+pub fn element<T: FromJson>(alloc: Global, value: &JsonValue, index: usize) -> Result<T, Error>
     ensures value { IfOk result (ReadsItem (view value.now) index T.gives) }
     ensures error { IfErr result (IsErrorIn (view value.now)) }
-    ensures takes { TakesItem (view value.now) index T.takes → IsOkUnless result OutOfMemory }
+    ensures takes { TakesItem (view value.now) index T.takes → IsOkUnless result memory }
 {
     let JsonValue::Array(items) = value else {
-        return Err(DecodeError::wrong(alloc, value, Expected::Array));
+        return Err(wrong(alloc, value, Expected::Array));
     };
     let Some(item) = items.get(index) else {
-        return Err(DecodeError::wrong(alloc, value, Expected::Above(index)));
+        return Err(wrong(alloc, value, Expected::Above(index)));
     };
     match T::from_json(alloc, item) {
         Ok(read) => Ok(read),
@@ -39,7 +36,7 @@ pub fn element<T: FromJson>(
 }
 
 /// Fails if the value isn't an array of this many elements.
-pub(super) fn check_len(alloc: Global, value: &JsonValue, count: usize) -> Result<(), DecodeError>
+pub(super) fn check_len(alloc: Global, value: &JsonValue, count: usize) -> Result<(), Error>
     ensures value { IfOk result (λ _. IsArrayOf count (view value.now)) }
     ensures error { IfErr result (IsErrorIn (view value.now)) }
     ensures takes { IsArrayOf count (view value.now) → IsOk result }
@@ -47,5 +44,5 @@ pub(super) fn check_len(alloc: Global, value: &JsonValue, count: usize) -> Resul
     if value.is_array() && value.len() == count {
         return Ok(());
     }
-    Err(DecodeError::wrong(alloc, value, Expected::Exactly(count)))
+    Err(wrong(alloc, value, Expected::Exactly(count)))
 }

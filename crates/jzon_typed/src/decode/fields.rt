@@ -8,13 +8,14 @@ ghost use Rattle.jzon.specs.PairList.{find, keys_of};
 ghost use Rattle.jzon.specs.Readers.{count, entries, exact_fixed_point_in, is_object, text_in};
 ghost use Rattle.jzon.specs.Value.{Value};
 ghost use Rattle.jzon.specs.View.{view};
-ghost use Rattle.jzon_typed.specs.Decode.{IsErrorIn};
+ghost use Rattle.jzon_pointer.specs.Errors.{memory};
+ghost use Rattle.jzon_typed.specs.Decode.{HidesValue, IsErrorIn};
 ghost use Rattle.jzon_typed.specs.DecodeFields.{IsAbsent, AllAmong, ReadsEntry, TakesEntry, read_from};
 ghost use Rattle.jzon_typed.specs.DecodeExpected.{Refuses};
 ghost use Rattle.jzon_pointer.specs.Names.{is_among};
-ghost use Rattle.jzon_typed.specs.declared.decode.error.DecodeError.TheVariants.{OutOfMemory};
 
-use super::{DecodeError, Expected, FromJson, Known};
+use super::wrong::{missing, unknown, wrong};
+use super::{Error, Expected, FromJson, Known, What};
 use jzon::JsonValue;
 use jzon::object::Object;
 use jzon_pointer::names::is_among;
@@ -22,7 +23,7 @@ use std::alloc::Global;
 use std::result::Result;
 
 /// An object that is read by its keys. The pointer of an error leads from this object. For another
-/// one that is read beside it, put the key before by `DecodeError::below_key`.
+/// one that is read beside it, put the key before by `Error::below_key`.
 #[derive(Clone, Copy)]
 pub struct Fields<'v> {
     /// What allocates the results and the errors.
@@ -33,24 +34,20 @@ pub struct Fields<'v> {
 
 impl<'v> Fields<'v> {
     /// The entries of a value, which must be an object.
-    pub fn of(alloc: Global, value: &'v JsonValue) -> Result<Fields<'v>, DecodeError>
+    pub fn of(alloc: Global, value: &'v JsonValue) -> Result<Fields<'v>, Error>
         ensures value { IfOk result (λ f. read_from f ≡ view value.now) }
         ensures error { IfErr result (IsErrorIn (view value.now)) }
         ensures accepts { IsOk result ↔ (is_object (view value.now) ≡ true) }
     {
         match value {
             JsonValue::Object(object) => Ok(Fields { alloc, object }),
-            _ => Err(DecodeError::wrong(alloc, value, Expected::Object)),
+            _ => Err(wrong(alloc, value, Expected::Object)),
         }
     }
 
     /// The entries of a value, which must be an object without other keys than the known ones. Of
     /// others the first is reported.
-    pub fn only(
-        alloc: Global,
-        value: &'v JsonValue,
-        known: Known,
-    ) -> Result<Fields<'v>, DecodeError>
+    pub fn only(alloc: Global, value: &'v JsonValue, known: Known) -> Result<Fields<'v>, Error>
         ensures value { IfOk result (λ f. read_from f ≡ view value.now) }
         ensures error { IfErr result (IsErrorIn (view value.now)) }
         ensures accepts { IsOk result ↔ ((is_object (view value.now) ≡ true)
@@ -63,38 +60,38 @@ impl<'v> Fields<'v> {
 
     /// Fails if a key isn't among the known ones. Called before an entry is read, it reports a
     /// misspelt key as unknown, and not the right one as missing.
-    pub fn deny_unknown(&self, known: Known) -> Result<(), DecodeError>
+    pub fn deny_unknown(&self, known: Known) -> Result<(), Error>
         ensures error { IfErr result (IsErrorIn (read_from self.now)) }
         ensures accepts { IsOk result ↔ AllAmong (map (λ n. n.now) known.now) (read_from self.now) }
     {
         match unknown_key(self.object, known) {
-            Some(key) => Err(DecodeError::unknown(self.alloc, key, known)),
+            Some(key) => Err(unknown(self.alloc, key, known)),
             None => Ok(()),
         }
     }
 
     /// The value of the entry with this key, read as a type. A missing entry is an error.
-    pub fn read<T: FromJson>(&self, key: &str) -> Result<T, DecodeError>
+    pub fn read<T: FromJson>(&self, key: &str) -> Result<T, Error>
         ensures value { IfOk result (ReadsEntry self.now key.now T.gives) }
         ensures error { IfErr result (IsErrorIn (read_from self.now)) }
-        ensures takes { TakesEntry self.now key.now T.takes → IsOkUnless result OutOfMemory }
+        ensures takes { TakesEntry self.now key.now T.takes → IsOkUnless result memory }
     {
         match self.entry(key) {
             Some(value) => self.below(key, value),
-            None => Err(DecodeError::missing(self.alloc, key, expected_of::<T>(self.alloc))),
+            None => Err(self.missing_as::<T>(key)),
         }
     }
 
     /// The same, or the default if the entry is missing, or null: so a later layer of a
     /// configuration can unset it (`merge::layer`). Elsewhere null isn't taken for missing.
-    pub fn read_or<T: FromJson>(&self, key: &str, default: T) -> Result<T, DecodeError>
+    pub fn read_or<T: FromJson>(&self, key: &str, default: T) -> Result<T, Error>
         ensures value { IfOk result (λ x.
             (IsAbsent (find key.now (entries (read_from self.now))) × (x ≡ default))
             ⊎ ReadsEntry self.now key.now T.gives x) }
         ensures absent { IsAbsent (find key.now (entries (read_from self.now)))
             → result ≡ Ok default }
         ensures error { IfErr result (IsErrorIn (read_from self.now)) }
-        ensures takes { TakesEntry self.now key.now T.takes → IsOkUnless result OutOfMemory }
+        ensures takes { TakesEntry self.now key.now T.takes → IsOkUnless result memory }
     {
         match self.present(key) {
             Some(value) => self.below(key, value),
@@ -103,14 +100,14 @@ impl<'v> Fields<'v> {
     }
 
     /// The same, or `None` if the entry is missing or null.
-    pub fn optional<T: FromJson>(&self, key: &str) -> Result<Option<T>, DecodeError>
+    pub fn optional<T: FromJson>(&self, key: &str) -> Result<Option<T>, Error>
         ensures none { IfOk result (λ o. o ≡ None
             → IsAbsent (find key.now (entries (read_from self.now)))) }
         ensures some { IfOk result (λ o. IfSome o (ReadsEntry self.now key.now T.gives)) }
         ensures absent { IsAbsent (find key.now (entries (read_from self.now)))
             → result ≡ Ok None }
         ensures error { IfErr result (IsErrorIn (read_from self.now)) }
-        ensures takes { TakesEntry self.now key.now T.takes → IsOkUnless result OutOfMemory }
+        ensures takes { TakesEntry self.now key.now T.takes → IsOkUnless result memory }
     {
         match self.present(key) {
             Some(value) => Ok(Some(self.below(key, value)?)),
@@ -119,12 +116,12 @@ impl<'v> Fields<'v> {
     }
 
     /// The entry's string, which isn't copied: it borrows the value.
-    pub fn str(&self, key: &str) -> Result<&'v str, DecodeError>
+    pub fn str(&self, key: &str) -> Result<&'v str, Error>
         ensures value { IfOk result (ReadsEntry self.now key.now (λ w s. text_in w ≡ Some s.now)) }
         ensures error { IfErr result (IsErrorIn (read_from self.now)) }
     {
         let Some(value) = self.entry(key) else {
-            return Err(DecodeError::missing(self.alloc, key, Expected::String));
+            return Err(self.missing(key, Expected::String));
         };
         match value.as_str() {
             Some(text) => Ok(text),
@@ -134,13 +131,13 @@ impl<'v> Fields<'v> {
 
     /// The entry's number with the point moved right by `point` digits: with 2, `19.9` is 1990. A
     /// number with more digits after the point is an error.
-    pub fn fixed_point(&self, key: &str, point: u16) -> Result<i64, DecodeError>
+    pub fn fixed_point(&self, key: &str, point: u16) -> Result<i64, Error>
         ensures value { IfOk result (ReadsEntry self.now key.now
             (λ w n. exact_fixed_point_in w point ≡ Some n)) }
         ensures error { IfErr result (IsErrorIn (read_from self.now)) }
     {
         let Some(value) = self.entry(key) else {
-            return Err(DecodeError::missing(self.alloc, key, Expected::Fixed(point)));
+            return Err(self.missing(key, Expected::Fixed(point)));
         };
         match value.as_exact_fixed_point_i64(point) {
             Some(units) => Ok(units),
@@ -150,13 +147,13 @@ impl<'v> Fields<'v> {
 
     /// The entry's array, of at most `most` elements, as a list. A longer one is refused before an
     /// element is read.
-    pub fn list<T: FromJson>(&self, key: &str, most: usize) -> Result<Vec<T>, DecodeError>
+    pub fn list<T: FromJson>(&self, key: &str, most: usize) -> Result<Vec<T>, Error>
         ensures value { IfOk result (ReadsEntry self.now key.now
             (λ w xs. ⟦<Vec<T> as FromJson>⟧.gives w xs × (count w ≤ most))) }
         ensures error { IfErr result (IsErrorIn (read_from self.now)) }
     {
         let Some(value) = self.entry(key) else {
-            return Err(DecodeError::missing(self.alloc, key, Expected::AtMost(most)));
+            return Err(self.missing(key, Expected::AtMost(most)));
         };
         if value.len() > most {
             return Err(self.wrong(key, value, Expected::AtMost(most)));
@@ -165,13 +162,27 @@ impl<'v> Fields<'v> {
     }
 
     /// The error of an entry that a caller's own test refuses. The words say what it expects.
-    pub fn expected(&self, key: &str, expected: &'static str) -> DecodeError
+    pub fn expected(&self, key: &str, expected: &'static str) -> Error
         ensures { IsErrorIn (read_from self.now) result }
     {
         match self.entry(key) {
             Some(value) => self.wrong(key, value, Expected::Other(expected)),
-            None => DecodeError::missing(self.alloc, key, Expected::Other(expected)),
+            None => self.missing(key, Expected::Other(expected)),
         }
+    }
+
+    /// The same without the value that is there, for a password or a token: of a string or a number
+    /// the message has its type alone.
+    ///
+    /// ```rust
+    /// return Err(login.expected_hidden("pin", "another number"));
+    /// ```
+    #[tactic(auto, using(crate::proofs::DecodeSteps::hidden))]
+    pub fn expected_hidden(&self, key: &str, expected: &'static str) -> Error
+        ensures error { IsErrorIn (read_from self.now) result }
+        ensures hidden { HidesValue result }
+    {
+        self.expected(key, expected).without_value()
     }
 
     /// The entry's value.
@@ -196,11 +207,11 @@ impl<'v> Fields<'v> {
     }
 
     /// The value of the entry with this key, read as a type.
-    fn below<T: FromJson>(&self, key: &str, value: &JsonValue) -> Result<T, DecodeError>
+    fn below<T: FromJson>(&self, key: &str, value: &JsonValue) -> Result<T, Error>
         requires { find key.now (entries (read_from self.now)) ≡ Some (view value.now) }
         ensures value { IfOk result (T.gives (view value.now)) }
         ensures error { IfErr result (IsErrorIn (read_from self.now)) }
-        ensures takes { T.takes (view value.now) → IsOkUnless result OutOfMemory }
+        ensures takes { T.takes (view value.now) → IsOkUnless result memory }
     {
         match T::from_json(self.alloc, value) {
             Ok(read) => Ok(read),
@@ -208,22 +219,37 @@ impl<'v> Fields<'v> {
         }
     }
 
+    /// The error of the missing entry of this type. It says what the type expects in place of null.
+    #[cold]
+    fn missing_as<T: FromJson>(&self, key: &str) -> Error
+        requires { find key.now (entries (read_from self.now)) ≡ None }
+        ensures { IsErrorIn (read_from self.now) result }
+    {
+        let Err(error) = T::from_json(self.alloc, &JsonValue::Null) else {
+            return self.missing(key, Expected::Value);
+        };
+        match error.what() {
+            Some(What::Wrong { expected, .. }) => self.missing(key, *expected),
+            Some(_) => self.missing(key, Expected::Value),
+            None => Error::MEMORY,
+        }
+    }
+
+    /// The error of the missing entry.
+    fn missing(&self, key: &str, expected: Expected) -> Error
+        requires { find key.now (entries (read_from self.now)) ≡ None }
+        ensures { IsErrorIn (read_from self.now) result }
+    {
+        missing(self.alloc, key, expected)
+    }
+
     /// The error of the entry with this key, whose value isn't what is expected.
-    fn wrong(&self, key: &str, value: &JsonValue, expected: Expected) -> DecodeError
+    fn wrong(&self, key: &str, value: &JsonValue, expected: Expected) -> Error
         requires entry { find key.now (entries (read_from self.now)) ≡ Some (view value.now) }
         requires refused { Refuses expected (view value.now) }
         ensures { IsErrorIn (read_from self.now) result }
     {
-        DecodeError::wrong(self.alloc, value, expected).below_key(self.alloc, key)
-    }
-}
-
-/// What the error of a missing entry says is expected: what the type expects in place of null.
-#[cold]
-fn expected_of<T: FromJson>(alloc: Global) -> Expected {
-    match T::from_json(alloc, &JsonValue::Null) {
-        Err(DecodeError::Wrong { expected, .. }) => expected,
-        _ => Expected::Value,
+        wrong(self.alloc, value, expected).below_key(self.alloc, key)
     }
 }
 

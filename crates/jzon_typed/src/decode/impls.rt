@@ -14,7 +14,8 @@ ghost use Rattle.jzon_typed.specs.DecodeMaps.{IsArrayOf, ReadsEntries, ReadsItem
 ghost use Rattle.jzon_typed.specs.Integers.{may_be_cut_in, natural_in, whole_in, IsNatural, IsNaturalBelow, IsWhole, IsWholeOf};
 
 use super::elements::check_len;
-use super::{DecodeError, Expected, Fields, FromJson, element};
+use super::wrong::{cut, wrong};
+use super::{Error, Expected, Fields, FromJson, element};
 use jzon::JsonValue;
 use jzon::number::Number;
 use std::alloc::Global;
@@ -27,7 +28,7 @@ fn or_wrong<T>(
     value: &JsonValue,
     read: Option<T>,
     expected: Expected,
-) -> Result<T, DecodeError>
+) -> Result<T, Error>
     requires { read ≡ None → Refuses expected (view value.now) }
     ensures value { IfOk result (λ x. read ≡ Some x) }
     ensures error { IfErr result (IsErrorIn (view value.now)) }
@@ -35,7 +36,7 @@ fn or_wrong<T>(
 {
     match read {
         Some(read) => Ok(read),
-        None => Err(DecodeError::wrong(alloc, value, expected)),
+        None => Err(wrong(alloc, value, expected)),
     }
 }
 
@@ -45,14 +46,14 @@ fn integer<T: Drop>(
     value: &JsonValue,
     read: Option<T>,
     expected: Expected,
-) -> Result<T, DecodeError>
+) -> Result<T, Error>
     requires { read ≡ None → Refuses expected (view value.now) }
     ensures value { IfOk result (λ x. (read ≡ Some x) × (may_be_cut_in (view value.now) ≡ false)) }
     ensures error { IfErr result (IsErrorIn (view value.now)) }
     ensures takes { IsSome read → may_be_cut_in (view value.now) ≡ false → IsOk result }
 {
     if read.is_some() && may_be_cut(value) {
-        return Err(DecodeError::wrong(alloc, value, Expected::Whole));
+        return Err(cut(alloc, value, expected));
     }
     or_wrong(alloc, value, read, expected)
 }
@@ -76,7 +77,7 @@ impl FromJson for JsonValue {
 
     ghost takes = { λ _. Unit {0} };
 
-    fn from_json(alloc: Global, value: &JsonValue) -> Result<JsonValue, DecodeError> {
+    fn from_json(alloc: Global, value: &JsonValue) -> Result<JsonValue, Error> {
         Ok(value.clone(alloc)?)
     }
 }
@@ -86,10 +87,10 @@ impl FromJson for String {
 
     ghost takes = { λ v. IsSome (text_in v) };
 
-    fn from_json(alloc: Global, value: &JsonValue) -> Result<String, DecodeError> {
+    fn from_json(alloc: Global, value: &JsonValue) -> Result<String, Error> {
         match value.as_str() {
             Some(text) => Ok(String::from_str(alloc, text)?),
-            None => Err(DecodeError::wrong(alloc, value, Expected::String)),
+            None => Err(wrong(alloc, value, Expected::String)),
         }
     }
 }
@@ -99,7 +100,7 @@ impl FromJson for bool {
 
     ghost takes = { λ v. IsSome (truth_in v) };
 
-    fn from_json(alloc: Global, value: &JsonValue) -> Result<bool, DecodeError> {
+    fn from_json(alloc: Global, value: &JsonValue) -> Result<bool, Error> {
         or_wrong(alloc, value, value.as_bool(), Expected::Boolean)
     }
 }
@@ -109,7 +110,7 @@ impl FromJson for Number {
 
     ghost takes = { λ v. IsSome (number_in v) };
 
-    fn from_json(alloc: Global, value: &JsonValue) -> Result<Number, DecodeError> {
+    fn from_json(alloc: Global, value: &JsonValue) -> Result<Number, Error> {
         or_wrong(alloc, value, value.as_number(), Expected::Number)
     }
 }
@@ -120,7 +121,7 @@ impl FromJson for u8 {
     ghost takes = { IsNaturalBelow (2 ^ 8) };
 
     #[tactic(auto, using(crate::proofs::IntegerSteps::integers))]
-    fn from_json(alloc: Global, value: &JsonValue) -> Result<u8, DecodeError> {
+    fn from_json(alloc: Global, value: &JsonValue) -> Result<u8, Error> {
         integer(alloc, value, u8_in(value), Expected::U8)
     }
 }
@@ -131,7 +132,7 @@ impl FromJson for u16 {
     ghost takes = { IsNaturalBelow (2 ^ 16) };
 
     #[tactic(auto, using(crate::proofs::IntegerSteps::integers))]
-    fn from_json(alloc: Global, value: &JsonValue) -> Result<u16, DecodeError> {
+    fn from_json(alloc: Global, value: &JsonValue) -> Result<u16, Error> {
         integer(alloc, value, u16_in(value), Expected::U16)
     }
 }
@@ -142,7 +143,7 @@ impl FromJson for u32 {
     ghost takes = { IsNaturalBelow (2 ^ 32) };
 
     #[tactic(auto, using(crate::proofs::IntegerSteps::integers))]
-    fn from_json(alloc: Global, value: &JsonValue) -> Result<u32, DecodeError> {
+    fn from_json(alloc: Global, value: &JsonValue) -> Result<u32, Error> {
         integer(alloc, value, u32_in(value), Expected::U32)
     }
 }
@@ -153,7 +154,7 @@ impl FromJson for u64 {
     ghost takes = { IsNaturalBelow (2 ^ 64) };
 
     #[tactic(auto, using(crate::proofs::IntegerSteps::integers))]
-    fn from_json(alloc: Global, value: &JsonValue) -> Result<u64, DecodeError> {
+    fn from_json(alloc: Global, value: &JsonValue) -> Result<u64, Error> {
         integer(alloc, value, natural(value), Expected::U64)
     }
 }
@@ -164,7 +165,7 @@ impl FromJson for usize {
     ghost takes = { IsNaturalBelow (2 ^ 64) };
 
     #[tactic(auto, using(crate::proofs::IntegerSteps::integers))]
-    fn from_json(alloc: Global, value: &JsonValue) -> Result<usize, DecodeError> {
+    fn from_json(alloc: Global, value: &JsonValue) -> Result<usize, Error> {
         integer(alloc, value, usize_in(value), Expected::U64)
     }
 }
@@ -175,7 +176,7 @@ impl FromJson for i8 {
     ghost takes = { IsWholeOf w8 };
 
     #[tactic(auto, using(crate::proofs::IntegerSteps::integers))]
-    fn from_json(alloc: Global, value: &JsonValue) -> Result<i8, DecodeError> {
+    fn from_json(alloc: Global, value: &JsonValue) -> Result<i8, Error> {
         integer(alloc, value, i8_in(value), Expected::I8)
     }
 }
@@ -186,7 +187,7 @@ impl FromJson for i16 {
     ghost takes = { IsWholeOf w16 };
 
     #[tactic(auto, using(crate::proofs::IntegerSteps::integers))]
-    fn from_json(alloc: Global, value: &JsonValue) -> Result<i16, DecodeError> {
+    fn from_json(alloc: Global, value: &JsonValue) -> Result<i16, Error> {
         integer(alloc, value, i16_in(value), Expected::I16)
     }
 }
@@ -197,7 +198,7 @@ impl FromJson for i32 {
     ghost takes = { IsWholeOf w32 };
 
     #[tactic(auto, using(crate::proofs::IntegerSteps::integers))]
-    fn from_json(alloc: Global, value: &JsonValue) -> Result<i32, DecodeError> {
+    fn from_json(alloc: Global, value: &JsonValue) -> Result<i32, Error> {
         integer(alloc, value, i32_in(value), Expected::I32)
     }
 }
@@ -208,7 +209,7 @@ impl FromJson for i64 {
     ghost takes = { IsWholeOf w64 };
 
     #[tactic(auto, using(crate::proofs::IntegerSteps::integers))]
-    fn from_json(alloc: Global, value: &JsonValue) -> Result<i64, DecodeError> {
+    fn from_json(alloc: Global, value: &JsonValue) -> Result<i64, Error> {
         integer(alloc, value, whole(value), Expected::I64)
     }
 }
@@ -219,7 +220,7 @@ impl FromJson for isize {
     ghost takes = { IsWholeOf w64 };
 
     #[tactic(auto, using(crate::proofs::IntegerSteps::integers))]
-    fn from_json(alloc: Global, value: &JsonValue) -> Result<isize, DecodeError> {
+    fn from_json(alloc: Global, value: &JsonValue) -> Result<isize, Error> {
         integer(alloc, value, isize_in(value), Expected::I64)
     }
 }
@@ -230,7 +231,7 @@ impl<T: FromJson> FromJson for Option<T> {
 
     ghost takes = { λ v. (v ≡ null) ⊎ T.takes v };
 
-    fn from_json(alloc: Global, value: &JsonValue) -> Result<Option<T>, DecodeError> {
+    fn from_json(alloc: Global, value: &JsonValue) -> Result<Option<T>, Error> {
         if value.is_null() {
             return Ok(None);
         }
@@ -244,9 +245,9 @@ impl<T: FromJson> FromJson for Vec<T> {
 
     ghost takes = { TakesItems T.takes };
 
-    fn from_json(alloc: Global, value: &JsonValue) -> Result<Vec<T>, DecodeError> {
+    fn from_json(alloc: Global, value: &JsonValue) -> Result<Vec<T>, Error> {
         let JsonValue::Array(items) = value else {
-            return Err(DecodeError::wrong(alloc, value, Expected::Array));
+            return Err(wrong(alloc, value, Expected::Array));
         };
         let mut list = Vec::with_capacity(alloc, items.len())?;
         for (index, item) in items.iter().enumerate() {
@@ -264,7 +265,7 @@ impl<T: FromJson> FromJson for Box<T> {
 
     ghost takes = { T.takes };
 
-    fn from_json(alloc: Global, value: &JsonValue) -> Result<Box<T>, DecodeError> {
+    fn from_json(alloc: Global, value: &JsonValue) -> Result<Box<T>, Error> {
         Ok(Box::new(alloc, T::from_json(alloc, value)?)?)
     }
 }
@@ -275,9 +276,27 @@ impl<A: FromJson, B: FromJson> FromJson for (A, B) {
 
     ghost takes = { λ v. IsArrayOf 2 v × TakesItem v 0 A.takes × TakesItem v 1 B.takes };
 
-    fn from_json(alloc: Global, value: &JsonValue) -> Result<(A, B), DecodeError> {
+    fn from_json(alloc: Global, value: &JsonValue) -> Result<(A, B), Error> {
         check_len(alloc, value, 2)?;
         Ok((element(alloc, value, 0)?, element(alloc, value, 1)?))
+    }
+}
+
+/// The elements of an array of three.
+impl<A: FromJson, B: FromJson, C: FromJson> FromJson for (A, B, C) {
+    ghost gives = { λ v p. IsArrayOf 3 v × ReadsItem v 0 A.gives p.0 × ReadsItem v 1 B.gives p.1
+        × ReadsItem v 2 C.gives p.2 };
+
+    ghost takes = { λ v. IsArrayOf 3 v × TakesItem v 0 A.takes × TakesItem v 1 B.takes
+        × TakesItem v 2 C.takes };
+
+    fn from_json(alloc: Global, value: &JsonValue) -> Result<(A, B, C), Error> {
+        check_len(alloc, value, 3)?;
+        Ok((
+            element(alloc, value, 0)?,
+            element(alloc, value, 1)?,
+            element(alloc, value, 2)?,
+        ))
     }
 }
 
@@ -285,7 +304,7 @@ impl<A: FromJson, B: FromJson> FromJson for (A, B) {
 impl<T: FromJson> FromJson for BTreeMap<String, T> {
     ghost gives = { λ v m. (is_object v ≡ true) × ReadsEntries T.gives v (tree.get_by_text m) };
 
-    fn from_json(alloc: Global, value: &JsonValue) -> Result<BTreeMap<String, T>, DecodeError> {
+    fn from_json(alloc: Global, value: &JsonValue) -> Result<BTreeMap<String, T>, Error> {
         let fields = Fields::of(alloc, value)?;
         let mut map = BTreeMap::new(alloc);
         for key in fields.object.keys() {

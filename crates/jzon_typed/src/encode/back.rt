@@ -1,14 +1,14 @@
 //! What is written is read back as an equal value.
 
-ghost use Rattle.std.specs.Prelude.{◌≡◌, ◌^◌, true, string_bytes, IfOk, IsOkUnless};
+ghost use Rattle.std.specs.Prelude.{◌≡◌, ◌^◌, ◌∷◌, [], true, string_bytes, IfOk, IsOkUnless};
 ghost use Rattle.std.specs.Int.{w8, w16, w32, w64};
 ghost use Rattle.jzon.specs.Value.{Value, null};
-ghost use Rattle.jzon_typed.specs.Back.{back-bool, back-int, back-list, back-nat, back-number, back-option, back-text, back-value};
-ghost use Rattle.jzon_typed.specs.Back.{taken-bool, taken-int, taken-list, taken-nat, taken-number, taken-option, taken-text, no-boolean, no-list, no-number, no-text};
-ghost use Rattle.jzon_typed.specs.declared.decode.error.DecodeError.TheVariants.{OutOfMemory};
+ghost use Rattle.jzon_typed.specs.Back.{back-bool, back-int, back-list, back-nat, back-number, back-option, back-pair, back-text, back-triple, back-value};
+ghost use Rattle.jzon_typed.specs.Back.{taken-bool, taken-int, taken-list, taken-nat, taken-number, taken-option, taken-pair, taken-text, taken-triple, no-array, no-boolean, no-list, no-number, no-text};
+ghost use Rattle.jzon_pointer.specs.Errors.{memory};
 
 use super::ToJson;
-use crate::decode::{DecodeError, FromJson};
+use crate::decode::{Error, FromJson};
 use jzon::JsonValue;
 use jzon::number::Number;
 use std::alloc::Global;
@@ -37,9 +37,9 @@ pub trait NotNull: ToJson {
 ///     Err(_) => expect(rt, words, false),
 /// }
 /// ```
-pub fn read_back<T: ReadsBack>(alloc: Global, source: &T) -> Result<T, DecodeError>
+pub fn read_back<T: ReadsBack>(alloc: Global, source: &T) -> Result<T, Error>
     ensures value { IfOk result (λ copy. T.eq copy source.now ≡ true) }
-    ensures memory { IsOkUnless result OutOfMemory }
+    ensures memory { IsOkUnless result memory }
 {
     let value = source.to_json(alloc)?;
     T::from_json(alloc, &value)
@@ -147,6 +147,21 @@ impl<T: ReadsBack + NotNull> ReadsBack for Option<T> {
     ghost taken = { taken-option T.ToJson.shows T.FromJson.takes T.taken };
 }
 
+impl<A: ReadsBack, B: ReadsBack> ReadsBack for (A, B) {
+    ghost back = { back-pair A.ToJson.shows B.ToJson.shows A.FromJson.gives A.PartialEq.eq A.back
+        B.FromJson.gives B.PartialEq.eq B.back };
+
+    ghost taken = { taken-pair A.ToJson.shows B.ToJson.shows A.FromJson.takes A.taken B.FromJson.takes B.taken };
+}
+
+impl<A: ReadsBack, B: ReadsBack, C: ReadsBack> ReadsBack for (A, B, C) {
+    ghost back = { back-triple A.ToJson.shows B.ToJson.shows C.ToJson.shows A.FromJson.gives
+        A.PartialEq.eq A.back B.FromJson.gives B.PartialEq.eq B.back C.FromJson.gives C.PartialEq.eq C.back };
+
+    ghost taken = { taken-triple A.ToJson.shows B.ToJson.shows C.ToJson.shows A.FromJson.takes A.taken
+        B.FromJson.takes B.taken C.FromJson.takes C.taken };
+}
+
 impl NotNull for u8 {
     ghost not_null = { λ x h. no-number _ h.0 };
 }
@@ -201,4 +216,16 @@ impl NotNull for String {
 
 impl<T: ToJson> NotNull for Vec<T> {
     ghost not_null = { λ x. no-list T.shows x.items };
+}
+
+impl<A: ToJson, B: ToJson> NotNull for (A, B) {
+    ghost not_null = { λ x h. no-array (h.0 ∷ h.1 ∷ []) h.4 };
+}
+
+impl<A: ToJson, B: ToJson, C: ToJson> NotNull for (A, B, C) {
+    ghost not_null = { λ x h. no-array (h.0 ∷ h.1 ∷ h.2 ∷ []) h.6 };
+}
+
+impl<T: NotNull> NotNull for Box<T> {
+    ghost not_null = { λ x. T.not_null x.value };
 }

@@ -183,6 +183,20 @@ impl<A: ToJson, B: ToJson> ToJson for (A, B) {
     }
 }
 
+/// The array of the three.
+impl<A: ToJson, B: ToJson, C: ToJson> ToJson for (A, B, C) {
+    ghost shows = { λ p v. (x y z : Value) × A.shows p.0 x × B.shows p.1 y × C.shows p.2 z
+        × (v ≡ array (values_of (x ∷ y ∷ z ∷ []))) };
+
+    fn to_json(&self, alloc: Global) -> Result<JsonValue> {
+        let mut items = Vec::with_capacity(alloc, 3)?;
+        items.push(self.0.to_json(alloc)?)?;
+        items.push(self.1.to_json(alloc)?)?;
+        items.push(self.2.to_json(alloc)?)?;
+        Ok(JsonValue::Array(items))
+    }
+}
+
 /// The object of its entries, in the map's order.
 impl<T: ToJson> ToJson for BTreeMap<String, T> {
     fn to_json(&self, alloc: Global) -> Result<JsonValue> {

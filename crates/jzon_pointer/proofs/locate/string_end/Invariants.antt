@@ -1,5 +1,5 @@
 use Rattle.std.proofs.Common.{◌≡◌, ◌-◌, ◌≤◌, length, drop}
-use Rattle.jzon_pointer.specs.Locate.{string_rest}
+use Rattle.jzon_pointer.specs.Private.Walk.{string_rest}
 use Rattle.jzon_pointer.proofs.locate.string_end.Given as goal
 
 abbrev pub invariant-loop-at : goal.invariant-loop-at

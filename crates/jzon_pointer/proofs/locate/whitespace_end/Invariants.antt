@@ -1,5 +1,5 @@
 use Rattle.std.proofs.Common.{◌≡◌, ◌-◌, ◌≤◌, length, drop}
-use Rattle.jzon_pointer.specs.Locate.{after_whitespace}
+use Rattle.jzon_pointer.specs.Private.Walk.{after_whitespace}
 use Rattle.jzon_pointer.proofs.locate.whitespace_end.Given as goal
 
 abbrev pub invariant-loop-at : goal.invariant-loop-at

@@ -3,8 +3,9 @@ use Rattle.jzon.specs.Entries.{entries_of}
 use Rattle.jzon.specs.Measure.{size, largest_under}
 use Rattle.jzon.specs.Text.{compact}
 use Rattle.jzon.specs.Value.{object}
-use Rattle.jzon_tools.proofs.CanonicalPieces.{none_written, item_written, items_written, adds_both, adds_equal}
-use Rattle.jzon_tools.proofs.CanonicalPieces.{item_text, entry_text, item_nan, entry_nan, array_written, no_nan_more}
+use Rattle.jzon.proofs.FormattedPieces.{none_shown, item_shown, items_shown}
+use Rattle.jzon_tools.proofs.CanonicalPieces.{adds_both, adds_equal, item_text, entry_text, item_nan}
+use Rattle.jzon_tools.proofs.CanonicalPieces.{entry_nan, array_written, no_nan_more}
 use Rattle.jzon_tools.proofs.CanonicalPieces.{no_nan_all, array_nan, object_nan}
 use Rattle.jzon_tools.proofs.CanonicalPieces.{object_written, sorted_whole}
 use Rattle.jzon_tools.proofs.SortedCopies.{size-pointed}
@@ -12,7 +13,7 @@ use Rattle.jzon_tools.proofs.canonical.+write.Goals as goal
 
 pub write_array-loop-index-init : goal.write_array-loop-index-init
 write_array-loop-index-init g t c =
-    ((91 ∷ [], c.in_ok-write_char.ensures.bytes, none_written item_text 91 93 c.args.items.now), refl)
+    ((91 ∷ [], c.in_ok-write_char.ensures.bytes, none_shown item_text 91 93 c.args.items.now), refl)
 
 pub write_array-loop-index-preserved : goal.write_array-loop-index-preserved
 write_array-loop-index-preserved g t c =
@@ -22,9 +23,9 @@ write_array-loop-index-preserved g t c =
     let so_far = c.loop-index.invariant in (
       (
         _,
-        adds_both _ _ _ _ _ so_far.0.1
-            (adds_both _ _ _ _ _ c.in_ok-write_comma.ensures c.in_ok-write_value.ensures.text),
-        item_written item_text 91 93 items i x (omega arith) c.index-items-index.is so_far.0.0 so_far.0.2,
+        adds_both _ _ _ _ _ (adds_both _ _ _ _ _ so_far.0.1 c.in_ok-write_comma.ensures)
+            c.in_ok-write_value.ensures.text,
+        item_shown item_text 91 93 items i x (omega arith) c.index-items-index.is so_far.0.0 so_far.0.2,
       ),
       no_nan_more item_nan items i x (omega arith) c.index-items-index.is c.in_ok-write_value.ensures.nan so_far.1,
     )
@@ -34,7 +35,7 @@ write_array-returns-clause-text g t c =
     let items = c.args.items.now in
     let so_far = c.loop-index.invariant in
     adds_equal _ _ _ _
-    (items_written item_text 91 93 items c.loop-index.index (omega arith) so_far.0.0 so_far.0.2 ∙ array_written items)
+    (items_shown item_text 91 93 items c.loop-index.index (omega arith) so_far.0.0 so_far.0.2 ∙ array_written items)
     (adds_both _ _ _ _ _ so_far.0.1 c.in_ok-write_char-2.ensures.bytes)
 
 pub write_array-returns-clause-nan : goal.write_array-returns-clause-nan
@@ -44,7 +45,7 @@ write_array-returns-clause-nan g t c =
 
 pub write_object-loop-index-init : goal.write_object-loop-index-init
 write_object-loop-index-init g t c =
-    ((123 ∷ [], c.in_ok-write_char.ensures.bytes, none_written entry_text 123 125 c.deref-entry-items.result.now), refl)
+    ((123 ∷ [], c.in_ok-write_char.ensures.bytes, none_shown entry_text 123 125 c.deref-entry-items.result.now), refl)
 
 pub write_object-write_value-requires : goal.write_object-write_value-requires
 write_object-write_value-requires g t c κs within =
@@ -63,11 +64,10 @@ write_object-loop-index-preserved g t c =
     let so_far = c.loop-index.invariant in (
       (
         _,
-        adds_both _ _ _ _ _ so_far.0.1
-            (adds_both _ _ _ _ _ c.in_ok-write_comma.ensures
+        adds_both _ _ _ _ _ (adds_both _ _ _ _ _ so_far.0.1 c.in_ok-write_comma.ensures)
             (adds_both _ _ _ _ _ c.in_ok-write_string.ensures.bytes
-            (adds_both _ _ _ _ _ c.in_ok-write_char-2.ensures.bytes c.in_ok-write_value.ensures.text))),
-        item_written entry_text 123 125 es i e c.loop-index-test.true c.entry-item.is so_far.0.0 so_far.0.2,
+            (adds_both _ _ _ _ _ c.in_ok-write_char-2.ensures.bytes c.in_ok-write_value.ensures.text)),
+        item_shown entry_text 123 125 es i e c.loop-index-test.true c.entry-item.is so_far.0.0 so_far.0.2,
       ),
       no_nan_more entry_nan es i e c.loop-index-test.true c.entry-item.is c.in_ok-write_value.ensures.nan so_far.1,
     )
@@ -80,7 +80,7 @@ write_object-returns-clause-text g t c =
     (rw c.deref-entry-items.ensures.value c.in_ok-entries.ensures.same)
     (rw c.deref-entry-items.ensures.value c.in_ok-entries.ensures.sorted) in
     adds_equal _ _ _ _
-    (items_written entry_text 123 125 es c.loop-index.index c.loop-index-test.false so_far.0.0 so_far.0.2
+    (items_shown entry_text 123 125 es c.loop-index.index (omega (arith, c.loop-index-test.false)) so_far.0.0 so_far.0.2
     ∙ object_written es ∙ ap (λ qs. compact (object qs)) whole)
     (adds_both _ _ _ _ _ so_far.0.1 c.in_ok-write_char-3.ensures.bytes)
 

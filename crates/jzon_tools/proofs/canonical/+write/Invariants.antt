@@ -3,7 +3,8 @@ use Rattle.std.specs.List.{list_any}
 use Rattle.jzon.specs.Entries.{entries_of}
 use Rattle.jzon.specs.Generator.{Adds, Just}
 use Rattle.jzon.specs.Measure.{size, largest, largest_under}
-use Rattle.jzon_tools.proofs.CanonicalPieces.{ItemsLeft, item_text, entry_text, item_nan, entry_nan}
+use Rattle.jzon.proofs.FormattedPieces.{ItemsLeft}
+use Rattle.jzon_tools.proofs.CanonicalPieces.{item_text, entry_text, item_nan, entry_nan}
 use Rattle.jzon_tools.proofs.canonical.+write.Given as goal
 
 -- what has been written and what is left make up the container, and no NaN has been met

@@ -3,8 +3,8 @@ use Rattle.jzon_tools.proofs.EditSteps.{element-new}
 use Rattle.jzon_pointer.proofs.PlaceSteps.{array_seen}
 use Rattle.jzon_tools.proofs.edit.insert_element.Goals as goal
 
-pub returns-in_default-clause-ok : goal.returns-in_default-clause-ok
-returns-in_default-clause-ok c =
+pub returns-in_default-clause-error : goal.returns-in_default-clause-error
+returns-in_default-clause-error c = λ _.
     element-new c.args.items.now.items c.args.token.now c.args.new c.len.result None (omega arith)
     (sym c.in_default.ensures.index)
 

@@ -11,14 +11,14 @@ pub loop-number-preserved : goal.loop-number-preserved
 loop-number-preserved c =
     let i = c.loop-number.number in
     let ops = c.in-Array.operations.items in
-    let op = view c.index.result.now in
+    let op = view c.index-operation.result.now in
     let old = view c.args.value.now in
     let v = view c.loop-number.value in
     let w = view c.step-done.new.value in
     let l = c.loop-number.left in
     let rest = view_values (drop (i + 1) ops) in
     let here : i < length ops = omega arith in
-    let cut = left-seen ops i c.index.result.now here c.index.ensures in
+    let cut = left-seen ops i c.index-operation.result.now here c.index-operation.ensures in
     let done = c.in_default-done.ensures.done in
     let within = c.in_default-done.ensures.within in
     let left = c.in_default-done.ensures.left in

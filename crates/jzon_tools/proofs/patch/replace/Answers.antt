@@ -9,6 +9,6 @@ returns-in-Err-clause-done c =
 
 pub returns-in-Err-clause-cause : goal.returns-in-Err-clause-cause
 returns-in-Err-clause-cause c op v h =
-    c.at.ensures.cause c.args.path.now (view c.args.value.now) op v h
+    c.at.ensures c.args.path.now (view c.args.value.now) op v h
     (entry-nowhere (view c.args.value.now) c.args.path.now c.in-Err.error c.in-Err.ensures.error)
     (λ none. absurd (whole-found (view c.args.value.now) c.args.path.now c.in-Err.error c.in-Err.ensures.error none))

@@ -1,8 +1,9 @@
-use Rattle.std.proofs.Common.{◌≤◌, length, map, option_map, slice_get, refl, sym, ap, ◌∙◌, subst}
+use Rattle.std.proofs.Common.{◌≤◌, length, map, option_map, slice_get, refl, sym, ap, ◌∙◌, subst, arith}
 use Rattle.std.proofs.lemmas.Option.{none-some, same_Some, slice_get-map, slice_get_past, slice_get_read}
 use Rattle.jzon.specs.Readers.{count, items}
 use Rattle.jzon.specs.View.{view}
 use Rattle.jzon.proofs.ValueLaws.{count-Array, items-Array}
+use Rattle.jzon_typed.proofs.DecodeSteps.{index-error, memory-stays}
 use Rattle.jzon_typed.proofs.decode.elements.element.Goals as goal
 
 pub returns-in_default-get-clause-error : goal.returns-in_default-get-clause-error
@@ -38,7 +39,8 @@ returns-in-Err-clause-error g c =
     let i = c.args.index in
     let seen = ap (λ v. items (view v)) c.in-Array.is ∙ items-Array c.in-Array.items
     ∙ ap (map view) (sym c.deref.ensures.value) in
-    c.below_index.ensures.error (view c.args.value.now) (view c.in-Some.item.now)
+    index-error (view c.args.value.now) (view c.in-Some.item.now) i c.in-Err.error c.below_index.result (omega arith)
+    c.below_index.ensures
     (ap (λ vs. slice_get vs i) seen ∙ slice_get-map view xs i
     ∙ ap (option_map view) (slice_get_read xs (length xs) i c.in-Some.item.now refl c.in-Some.ensures.lookup.3.0 c.in-Some.ensures.lookup.1))
     c.in-Err.ensures.error
@@ -51,5 +53,5 @@ returns-in-Err-clause-takes g c = λ taken.
     ∙ ap (map view) (sym c.deref.ensures.value) in
     let at = ap (λ vs. slice_get vs i) seen ∙ slice_get-map view xs i
     ∙ ap (option_map view) (slice_get_read xs (length xs) i c.in-Some.item.now refl c.in-Some.ensures.lookup.3.0 c.in-Some.ensures.lookup.1) in
-    c.below_index.ensures.memory (c.in-Err.ensures.takes
+    memory-stays c.in-Err.error c.below_index.result _ c.below_index.ensures (c.in-Err.ensures.takes
     (subst g.T.FromJson.takes (same_Some _ _ (sym taken.1 ∙ at)) taken.2))

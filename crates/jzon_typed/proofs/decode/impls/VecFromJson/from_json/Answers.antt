@@ -5,6 +5,7 @@ use Rattle.std.specs.List.{AllZip}
 use Rattle.jzon.specs.Readers.{is_array, items}
 use Rattle.jzon.specs.View.{view}
 use Rattle.jzon.proofs.ValueLaws.{view-Array, items-Array}
+use Rattle.jzon_typed.proofs.DecodeSteps.{index-error, memory-stays}
 use Rattle.jzon_typed.proofs.FieldSteps.{zip-next}
 use Rattle.jzon_typed.proofs.decode.impls.VecFromJson.from_json.Goals as goal
 
@@ -15,7 +16,8 @@ returns-in-Err-clause-error g c =
     let item = c.item-item.result in
     let seen = ap (λ v. items (view v)) c.in-Array.is ∙ items-Array c.in-Array.items
     ∙ ap (map view) (sym c.deref-item-items.ensures.value) in
-    c.below_index.ensures.error (view c.args.value.now) (view item)
+    index-error (view c.args.value.now) (view item) i c.in-Err.error c.below_index.result (omega arith)
+    c.below_index.ensures
     (ap (λ vs. slice_get vs i) seen ∙ slice_get-map view xs i
     ∙ ap (option_map view) (slice_get_read xs (length xs) i item refl c.loop-index-test.true c.item-item.is))
     c.in-Err.ensures.error
@@ -27,7 +29,7 @@ returns-in-Err-clause-takes g c = λ taken.
     let item = c.item-item.result in
     let seen = ap (λ v. items (view v)) c.in-Array.is ∙ items-Array c.in-Array.items
     ∙ ap (map view) (sym c.deref-item-items.ensures.value) in
-    c.below_index.ensures.memory (c.in-Err.ensures.takes (taken.1 i (view item)
+    memory-stays c.in-Err.error c.below_index.result _ c.below_index.ensures (c.in-Err.ensures.takes (taken.1 i (view item)
     (ap (λ vs. slice_get vs i) seen ∙ slice_get-map view xs i
     ∙ ap (option_map view) (slice_get_read xs (length xs) i item refl c.loop-index-test.true c.item-item.is))))
 

@@ -1,0 +1,2 @@
+-- Private definitions: no public clause cites them.
+pub mod Walk

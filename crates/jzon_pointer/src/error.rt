@@ -1,0 +1,474 @@
+//! Errors of all that stands beside `jzon`, in one form: what went wrong, and where.
+//!
+//! `error_text` of specs/Errors.antt is what an error prints, `what_of` and the words beside it what it
+//! says, and `short` its law: no message is longer than 1,000 bytes.
+
+ghost use Rattle.std.specs.Prelude.{◌≡◌, ◌∷◌, ◌++◌, [], None, Some, option_map, string_bytes};
+ghost use Rattle.std.specs.Fmt.{decimal};
+ghost use Rattle.std.specs.IoError.{error_kind};
+ghost use Rattle.std.specs.Option.{option_copied};
+ghost use Rattle.jzon_pointer.specs.Escaped.{escaped};
+ghost use Rattle.jzon_pointer.specs.Errors.{error_text, hidden_what, is_memory, kind_of, located_error, member_of, memory, operation_of, place_of, pointer_of, position_of, text_of, what_of, Becomes, BecomesOrMemory, SaysOrMemory, ShortLaw};
+
+mod located;
+mod parts;
+mod path;
+mod words;
+
+use crate::PointerError;
+use jzon::{LocatedError, Place, io_error};
+pub use parts::{Cause, Expected, Found, Known, Member};
+use std::alloc::{AllocError, AllocFailed, Global};
+use std::io::ErrorKind;
+use std::{fmt, io};
+pub use words::Words;
+use words::{InMember, InOperation, Pointed, Position};
+
+/// Why a call fails, and where: `/servers/1/port: expected an integer from 0 to 65535, found "80" at
+/// (4:14)`, or ``operation 3: `from`: /a/b: /a has no key "b"``.
+///
+/// Its message is one line of at most 1,000 bytes, whatever a stranger sent: characters that aren't
+/// seen, or turn the line, are escaped as in JSON, and long texts are cut, with `..`. It owns what it
+/// names, so `?` keeps everything. An error for which there is no memory becomes `Error::MEMORY`.
+#[derive(PartialEq, Eq, Drop)]
+pub struct Error {
+    inner: Inner,
+}
+
+/// A text's error is as `jzon` returns it, so that `?` needs no allocator. What others say is in a box,
+/// so that a success moves little.
+#[derive(PartialEq, Eq, Drop)]
+enum Inner {
+    Memory,
+    Text(LocatedError),
+    Boxed(Box<Report>),
+}
+
+/// What an error says of a value, a pointer or a patch.
+#[derive(Clone, PartialEq, Eq, Drop)]
+struct Report {
+    what: What,
+    pointer: String,
+    operation: Option<usize>,
+    member: Option<Member>,
+    place: Option<Place>,
+}
+
+/// What went wrong with a value, a pointer or a patch.
+#[derive(Clone, PartialEq, Eq, Drop)]
+pub enum What {
+    /// The pointer names nothing in the value, or no place for a new one.
+    Pointer(PointerError),
+    /// The value isn't what is expected: `expected a string, found 7`.
+    Wrong { expected: Expected, found: Found },
+    /// Digits of the number may have been cut when its text was read, so that its value isn't known.
+    Cut { expected: Expected, found: Found },
+    /// The pointer's last key is missing in its object: `missing, expected a string`.
+    Missing(Expected),
+    /// The pointer's last key isn't a known one: `unknown key, expected host, port`.
+    Unknown(Known),
+    /// The operation of a patch can't be done.
+    Operation(Cause),
+    /// The number is a NaN, which no text means.
+    NotANumber,
+    /// What a program says in its own words.
+    Said(&'static str),
+    /// The same, in words that it made.
+    Custom(String),
+}
+
+impl Error {
+    /// The error of a failed allocation.
+    pub const MEMORY: Error = Error {
+        inner: Inner::Memory,
+    };
+
+    /// The error of what went wrong, of the whole value.
+    #[cold]
+    pub fn new(alloc: Global, what: What) -> Error
+        ensures { SaysOrMemory result (Some what) [] None None None }
+    {
+        Error::boxed(alloc, what, String::new(alloc))
+    }
+
+    /// The error of what went wrong at a pointer.
+    #[cold]
+    pub fn at_pointer(alloc: Global, pointer: &str, what: What) -> Error
+        ensures { SaysOrMemory result (Some what) pointer.now None None None }
+    {
+        match String::from_str(alloc, pointer) {
+            Ok(pointer) => Error::boxed(alloc, what, pointer),
+            Err(_refused) => Error::MEMORY,
+        }
+    }
+
+    /// What went wrong and where, in a box.
+    fn boxed(alloc: Global, what: What, pointer: String) -> Error
+        ensures { SaysOrMemory result (Some what) (string_bytes pointer) None None None }
+    {
+        let report = Report {
+            what,
+            pointer,
+            operation: None,
+            member: None,
+            place: None,
+        };
+        match Box::new(alloc, report) {
+            Ok(report) => Error {
+                inner: Inner::Boxed(report),
+            },
+            Err(_refused) => Error::MEMORY,
+        }
+    }
+
+    /// The error of an object, of which the entry with this key has this error.
+    #[cold]
+    pub fn below_key(self, alloc: Global, key: &str) -> Error
+        ensures { BecomesOrMemory self result (what_of self) (47 ∷ escaped key.now ++ pointer_of self)
+            (operation_of self) (member_of self) (place_of self) }
+    {
+        match path::below_key(alloc, key, self.pointer()) {
+            Ok(pointer) => self.moved(pointer),
+            Err(_refused) => Error::MEMORY,
+        }
+    }
+
+    /// The error of an array, of which the element at this index has this error.
+    #[cold]
+    pub fn below_index(self, alloc: Global, index: usize) -> Error
+        ensures { BecomesOrMemory self result (what_of self) (47 ∷ decimal index ++ pointer_of self)
+            (operation_of self) (member_of self) (place_of self) }
+    {
+        match path::below_index(alloc, index, self.pointer()) {
+            Ok(pointer) => self.moved(pointer),
+            Err(_refused) => Error::MEMORY,
+        }
+    }
+
+    /// The error in operation `number` of a patch, from 0, and of its member if the pointer is that
+    /// member's.
+    pub fn in_operation(self, number: usize, member: Option<Member>) -> Error
+        ensures { Becomes self result (what_of self) (pointer_of self) (Some number) member
+            (place_of self) }
+    {
+        match self.inner {
+            Inner::Boxed(mut report) => {
+                report.operation = Some(number);
+                report.member = member;
+                Error {
+                    inner: Inner::Boxed(report),
+                }
+            }
+            Inner::Text(located) => Error {
+                inner: Inner::Text(located),
+            },
+            Inner::Memory => Error::MEMORY,
+        }
+    }
+
+    /// The error at a place of the text that was read, or without one.
+    pub fn at_place(self, place: Option<Place>) -> Error
+        ensures { Becomes self result (what_of self) (pointer_of self) (operation_of self)
+            (member_of self) place }
+    {
+        match self.inner {
+            Inner::Boxed(mut report) => {
+                report.place = place;
+                Error {
+                    inner: Inner::Boxed(report),
+                }
+            }
+            Inner::Text(located) => Error {
+                inner: Inner::Text(located),
+            },
+            Inner::Memory => Error::MEMORY,
+        }
+    }
+
+    /// The error without what is there, of which only the type is left, so that a password or a
+    /// token doesn't get into a log: `/token: expected an integer, found a string`. An array or an
+    /// object is named by its size in any case. Keys, and what a program says, are kept.
+    ///
+    /// ```rust
+    /// fields
+    ///     .expected("password", "at least 12 characters")
+    ///     .without_value(),
+    /// ```
+    pub fn without_value(self) -> Error
+        ensures { Becomes self result (option_map hidden_what (what_of self)) (pointer_of self)
+            (operation_of self) (member_of self) (place_of self) }
+    {
+        match self.inner {
+            Inner::Boxed(mut report) => {
+                match &mut report.what {
+                    What::Wrong { found, .. } => *found = found.hidden(),
+                    What::Cut { found, .. } => *found = found.hidden(),
+                    _ => {}
+                }
+                Error {
+                    inner: Inner::Boxed(report),
+                }
+            }
+            Inner::Text(located) => Error {
+                inner: Inner::Text(located),
+            },
+            Inner::Memory => Error::MEMORY,
+        }
+    }
+
+    /// Whether an allocation failed. Such an error has no pointer, operation or place.
+    pub fn is_memory(&self) -> bool
+        ensures { result ≡ is_memory self.now }
+    {
+        matches!(&self.inner, Inner::Memory)
+    }
+
+    /// What went wrong with a value, a pointer or a patch. `None` if a text is rejected, or if an
+    /// allocation failed.
+    ///
+    /// ```rust
+    /// Err(error) if matches!(error.what(), Some(What::Pointer(_))) => Ok(None),
+    /// ```
+    pub fn what(&self) -> Option<&What>
+        ensures { option_copied result ≡ what_of self.now }
+    {
+        match &self.inner {
+            Inner::Boxed(report) => Some(&report.what),
+            _ => None,
+        }
+    }
+
+    /// The pointer from the value that was read or changed: empty for the whole value, and where no
+    /// value has the error.
+    pub fn pointer(&self) -> &str
+        ensures { result.now ≡ pointer_of self.now }
+    {
+        match &self.inner {
+            Inner::Boxed(report) => report.pointer.as_str(),
+            _ => "",
+        }
+    }
+
+    /// The number of the patch's operation, from 0.
+    pub fn operation(&self) -> Option<usize>
+        ensures { result ≡ operation_of self.now }
+    {
+        match &self.inner {
+            Inner::Boxed(report) => report.operation,
+            _ => None,
+        }
+    }
+
+    /// The member of the operation that has the pointer, if it leads nowhere.
+    pub fn member(&self) -> Option<Member>
+        ensures { result ≡ member_of self.now }
+    {
+        match &self.inner {
+            Inner::Boxed(report) => report.member,
+            _ => None,
+        }
+    }
+
+    /// Where it is in the text that was read, if that is known.
+    pub fn place(&self) -> Option<Place>
+        ensures { result ≡ place_of self.now }
+    {
+        match &self.inner {
+            Inner::Boxed(report) => report.place,
+            Inner::Text(located) => located.place,
+            Inner::Memory => None,
+        }
+    }
+
+    /// The text's own error, if it isn't JSON, or its reading rejects it.
+    pub fn text(&self) -> Option<&jzon::Error>
+        ensures { option_copied result ≡ text_of self.now }
+    {
+        match &self.inner {
+            Inner::Text(located) => Some(&located.error),
+            _ => None,
+        }
+    }
+
+    /// The words alone, without operation, pointer and place, for a program that prints file and line
+    /// in its own way.
+    ///
+    /// ```rust
+    /// let path = ShownPointer(error.pointer());
+    /// let text = format!(in alloc; "{file}:{line}: {path}: {}", error.words())?;
+    /// ```
+    pub fn words(&self) -> Words<'_>
+        ensures text { option_copied result.text ≡ text_of self.now }
+        ensures what { option_copied result.what ≡ what_of self.now }
+        ensures pointer { result.pointer.now ≡ pointer_of self.now }
+    {
+        Words {
+            text: self.text(),
+            what: self.what(),
+            pointer: self.pointer(),
+        }
+    }
+
+    /// The line and the column: of the place, or of the text's own error.
+    fn position(&self) -> Option<(usize, usize)>
+        ensures { result ≡ position_of (text_of self.now) (place_of self.now) }
+    {
+        if let Some(place) = self.place() {
+            return Some((place.line, place.column));
+        }
+        let error = self.text()?;
+        Some((error.line()?, error.column()?))
+    }
+
+    /// With another pointer.
+    fn moved(self, to: String) -> Error
+        ensures { Becomes self result (what_of self) (string_bytes to) (operation_of self)
+            (member_of self) (place_of self) }
+    {
+        match self.inner {
+            Inner::Boxed(mut report) => {
+                report.pointer = to;
+                Error {
+                    inner: Inner::Boxed(report),
+                }
+            }
+            Inner::Text(located) => Error {
+                inner: Inner::Text(located),
+            },
+            Inner::Memory => Error::MEMORY,
+        }
+    }
+
+    fn io_kind(&self) -> ErrorKind
+        ensures { result ≡ kind_of (text_of self.now) (what_of self.now) }
+    {
+        match (self.text(), self.what()) {
+            (Some(error), _) => error.io_kind(),
+            (None, None) => ErrorKind::OutOfMemory,
+            (None, Some(_)) => ErrorKind::InvalidData,
+        }
+    }
+}
+
+/// No message of an error is longer than 1,000 bytes. It does nothing: the law is its contract, as of
+/// `jzon::laws`.
+pub fn short()
+    ensures { ShortLaw }
+{}
+
+/// One line: the operation, the pointer, the words, and the place. Flags are ignored.
+impl fmt::Display for Error {
+    ghost output = { λ e. Some (error_text e) };
+
+    fn fmt<W: fmt::Write>(&self, f: &mut fmt::Formatter<W>) -> fmt::Result {
+        let operation = InOperation(self.operation());
+        let member = InMember(self.member());
+        let pointer = Pointed(self.pointer());
+        let words = self.words();
+        let position = Position(self.position());
+        write!(f, "{operation}{member}{pointer}{words}{position}")
+    }
+}
+
+/// As `Display`, so that it is as short and as safe.
+impl fmt::Debug for Error {
+    fn fmt<W: fmt::Write>(&self, f: &mut fmt::Formatter<W>) -> fmt::Result {
+        write!(f, "{self}")
+    }
+}
+
+impl std::error::Error for Error {}
+
+impl Clone for Error {
+    fn clone(&self) -> Result<Error, AllocError> {
+        let inner = match &self.inner {
+            Inner::Memory => Inner::Memory,
+            Inner::Text(located) => Inner::Text(LocatedError {
+                error: copied(&located.error)?,
+                place: located.place,
+            }),
+            Inner::Boxed(report) => Inner::Boxed(report.clone()?),
+        };
+        Ok(Error { inner })
+    }
+}
+
+/// A copy of a text's error.
+fn copied(error: &jzon::Error) -> Result<jzon::Error, AllocError> {
+    Ok(match error {
+        jzon::Error::UnexpectedCharacter { ch, line, column } => {
+            jzon::Error::UnexpectedCharacter {
+                ch: *ch,
+                line: *line,
+                column: *column,
+            }
+        }
+        jzon::Error::UnexpectedEndOfJson => jzon::Error::UnexpectedEndOfJson,
+        jzon::Error::ExceededDepthLimit => jzon::Error::ExceededDepthLimit,
+        jzon::Error::FailedUtf8Parsing => jzon::Error::FailedUtf8Parsing,
+        jzon::Error::WrongType(word) => jzon::Error::WrongType(word.clone()?),
+        jzon::Error::OutOfMemory => jzon::Error::OutOfMemory,
+        jzon::Error::DuplicateKey { line, column } => jzon::Error::DuplicateKey {
+            line: *line,
+            column: *column,
+        },
+        jzon::Error::InexactNumber { line, column } => jzon::Error::InexactNumber {
+            line: *line,
+            column: *column,
+        },
+    })
+}
+
+/// So that `?` works on what parses a text with its place.
+impl From<LocatedError> for Error {
+    ghost from_gives = { λ l e. e ≡ located_error l };
+
+    fn from(located: LocatedError) -> Error {
+        match located.error {
+            jzon::Error::OutOfMemory => Error::MEMORY,
+            error => Error {
+                inner: Inner::Text(LocatedError {
+                    error,
+                    place: located.place,
+                }),
+            },
+        }
+    }
+}
+
+/// So that `?` works on a call of `jzon`.
+impl From<jzon::Error> for Error {
+    ghost from_gives = { λ e f. f ≡ located_error (record { error = e; place = None }) };
+
+    fn from(error: jzon::Error) -> Error {
+        Error::from(LocatedError { error, place: None })
+    }
+}
+
+/// So that `?` after a call of std returns `OutOfMemory`.
+impl From<AllocError> for Error {
+    ghost from_gives = { λ _ e. e ≡ memory };
+
+    fn from(_refused: AllocError) -> Error {
+        Error::MEMORY
+    }
+}
+
+/// What was to be stored, and came back with the error, is dropped.
+impl<T: Drop> From<AllocFailed<T>> for Error {
+    ghost from_gives = { λ _ e. e ≡ memory };
+
+    fn from(_refused: AllocFailed<T>) -> Error {
+        Error::MEMORY
+    }
+}
+
+/// So that `?` works in a `main` that returns an `io::Result`. The kind is that of the text's error,
+/// `OutOfMemory`, or `InvalidData`. Of a long message the end is left out.
+impl From<Error> for io::Error {
+    ghost from_gives = { λ e i. error_kind i ≡ kind_of (text_of e) (what_of e) };
+
+    fn from(error: Error) -> io::Error {
+        io_error(error.io_kind(), &error)
+    }
+}

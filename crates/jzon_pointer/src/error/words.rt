@@ -1,0 +1,193 @@
+//! What an error prints, part by part. Each part is of a bounded length.
+
+ghost use Rattle.std.specs.Prelude.{◌≡◌, Some};
+ghost use Rattle.std.specs.Fmt.{WritesOnOk};
+ghost use Rattle.std.specs.Option.{option_copied};
+ghost use Rattle.jzon_pointer.specs.Errors.{count_text, at_text, in_member_text, in_operation_text, lost_text, pointer_words, text_words, what_words, words_text};
+ghost use Rattle.jzon_pointer.specs.Shown.{place_text};
+
+use super::{Member, What};
+use crate::pointer::{parent, token};
+use crate::shown::{ShownPointer, ShownToken, ShownWords, show_char, show_names, show_place};
+use crate::{PointerError, Reason};
+use std::fmt;
+
+/// A number that a `usize` has.
+#[derive(Clone, Copy)]
+pub struct Count(pub usize);
+
+impl fmt::Display for Count {
+    ghost output = { λ n. Some (count_text n.0) };
+
+    fn fmt<W: fmt::Write>(&self, f: &mut fmt::Formatter<W>) -> fmt::Result {
+        let count = self.0;
+        write!(f, "{count}")
+    }
+}
+
+/// The number of a patch's operation, and a colon.
+#[derive(Clone, Copy)]
+pub struct InOperation(pub Option<usize>);
+
+impl fmt::Display for InOperation {
+    ghost output = { λ n. Some (in_operation_text n.0) };
+
+    fn fmt<W: fmt::Write>(&self, f: &mut fmt::Formatter<W>) -> fmt::Result {
+        match self.0 {
+            Some(number) => write!(f, "operation {}: ", Count(number)),
+            None => Ok(()),
+        }
+    }
+}
+
+/// The member that has a pointer, and a colon.
+#[derive(Clone, Copy)]
+pub struct InMember(pub Option<Member>);
+
+impl fmt::Display for InMember {
+    ghost output = { λ m. Some (in_member_text m.0) };
+
+    fn fmt<W: fmt::Write>(&self, f: &mut fmt::Formatter<W>) -> fmt::Result {
+        match self.0 {
+            Some(member) => write!(f, "{member}: "),
+            None => Ok(()),
+        }
+    }
+}
+
+/// A pointer and a colon; nothing of the empty one.
+#[derive(Clone, Copy)]
+pub struct Pointed<'a>(pub &'a str);
+
+impl fmt::Display for Pointed<'_> {
+    ghost output = { λ p. Some (place_text p.0.now) };
+
+    fn fmt<W: fmt::Write>(&self, f: &mut fmt::Formatter<W>) -> fmt::Result {
+        show_place(f, self.0)
+    }
+}
+
+/// A line and a column, if they are known.
+#[derive(Clone, Copy)]
+pub struct Position(pub Option<(usize, usize)>);
+
+impl fmt::Display for Position {
+    ghost output = { λ p. Some (at_text p.0) };
+
+    fn fmt<W: fmt::Write>(&self, f: &mut fmt::Formatter<W>) -> fmt::Result {
+        match self.0 {
+            Some((line, column)) => write!(f, " at ({}:{})", Count(line), Count(column)),
+            None => Ok(()),
+        }
+    }
+}
+
+/// The words of an error, as `Error::words` returns them: one line of at most 600 bytes.
+#[derive(Clone, Copy)]
+pub struct Words<'a> {
+    pub(super) text: Option<&'a jzon::Error>,
+    pub(super) what: Option<&'a What>,
+    pub(super) pointer: &'a str,
+}
+
+impl fmt::Display for Words<'_> {
+    ghost output = { λ w. Some (words_text (option_copied w.text) (option_copied w.what) w.pointer.now) };
+
+    fn fmt<W: fmt::Write>(&self, f: &mut fmt::Formatter<W>) -> fmt::Result {
+        match (self.text, self.what) {
+            (Some(error), _) => show_text_words(f, error),
+            (None, Some(what)) => show_what(f, what, self.pointer),
+            (None, None) => f.write_str("Out of memory"),
+        }
+    }
+}
+
+/// Why a text is rejected, without a place.
+fn show_text_words<W: fmt::Write>(f: &mut fmt::Formatter<W>, error: &jzon::Error) -> fmt::Result
+    ensures { WritesOnOk W.write_str_gives f.old result (text_words error.now) f.new }
+{
+    match error {
+        jzon::Error::UnexpectedCharacter { ch, .. } => {
+            f.write_str("Unexpected character: ")?;
+            show_char(f, *ch)
+        }
+        jzon::Error::UnexpectedEndOfJson => f.write_str("Unexpected end of JSON"),
+        jzon::Error::ExceededDepthLimit => f.write_str("Exceeded depth limit"),
+        jzon::Error::FailedUtf8Parsing => f.write_str("Failed to parse UTF-8 bytes"),
+        jzon::Error::WrongType(kind) => {
+            write!(f, "Wrong type, expected: {}", ShownWords(kind.as_str()))
+        }
+        jzon::Error::OutOfMemory => f.write_str("Out of memory"),
+        jzon::Error::DuplicateKey { .. } => f.write_str("Duplicate key"),
+        jzon::Error::InexactNumber { .. } => f.write_str("Number is not exact"),
+    }
+}
+
+/// What went wrong, at a pointer.
+fn show_what<W: fmt::Write>(f: &mut fmt::Formatter<W>, what: &What, pointer: &str) -> fmt::Result
+    ensures { WritesOnOk W.write_str_gives f.old result (what_words what.now pointer.now) f.new }
+{
+    match what {
+        What::Pointer(error) => show_pointer_words(f, error, pointer),
+        What::Wrong { expected, found } => write!(f, "expected {expected}, found {found}"),
+        What::Cut { expected, found } => {
+            write!(
+                f,
+                "expected {expected}, found {found}, of which digits may be cut"
+            )
+        }
+        What::Missing(expected) => write!(f, "missing, expected {expected}"),
+        What::Unknown(known) => {
+            f.write_str("unknown key, expected ")?;
+            show_names(f, known)
+        }
+        What::Operation(cause) => write!(f, "{cause}"),
+        What::NotANumber => f.write_str("not a number"),
+        What::Said(words) => write!(f, "{}", ShownWords(*words)),
+        What::Custom(words) => write!(f, "{}", ShownWords(words.as_str())),
+    }
+}
+
+/// Why a pointer names nothing.
+fn show_pointer_words<W: fmt::Write>(
+    f: &mut fmt::Formatter<W>,
+    error: &PointerError,
+    pointer: &str,
+) -> fmt::Result
+    ensures { WritesOnOk W.write_str_gives f.old result (pointer_words error.now pointer.now) f.new }
+{
+    match error {
+        PointerError::NoSlash => f.write_str("a pointer begins with /"),
+        PointerError::Missing { start, end, reason } => {
+            show_reason(
+                f,
+                reason,
+                parent(pointer, *start),
+                token(pointer, *start, *end),
+            )
+        }
+        PointerError::WholeValue => f.write_str("the pointer names the whole value"),
+    }
+}
+
+/// Why the token names nothing in the value that is called so.
+fn show_reason<W: fmt::Write>(
+    f: &mut fmt::Formatter<W>,
+    reason: &Reason,
+    parent: &str,
+    token: &str,
+) -> fmt::Result
+    ensures { WritesOnOk W.write_str_gives f.old result
+        (lost_text reason.now parent.now token.now) f.new }
+{
+    let parent = ShownPointer(parent);
+    let token = ShownToken(token);
+    match reason {
+        Reason::BadEscape => f.write_str("~ without 0 or 1 after it"),
+        Reason::NoMember => write!(f, "{parent} has no key \"{token}\""),
+        Reason::NotAnIndex => write!(f, "{parent} is an array, and \"{token}\" is no index"),
+        Reason::OutOfRange { length: 1 } => write!(f, "{parent} has 1 element"),
+        Reason::OutOfRange { length } => write!(f, "{parent} has {} elements", Count(*length)),
+        Reason::NoChildren(found) => write!(f, "{parent} is {found} and has no members"),
+    }
+}
