@@ -1,3 +1,4 @@
 pub mod Config
 pub mod Filter
+pub mod ReadBack
 pub mod Server

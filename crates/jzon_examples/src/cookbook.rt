@@ -7,6 +7,7 @@ pub mod depth;
 pub mod looking;
 pub mod printing;
 pub mod proved;
+pub mod read_back;
 pub mod reading;
 pub mod refused;
 pub mod tabs;

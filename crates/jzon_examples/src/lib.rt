@@ -1,5 +1,5 @@
 //! Proved callers of `jzon`, each a page (crates/jzon/CALLING.md). Of the library's definitions they
-//! name only those of `jzon`.
+//! name only those of `jzon`, and in `cookbook::read_back` those of `jzon_typed`.
 #![tactic(auto)]
 
 pub mod chains;

@@ -25,6 +25,8 @@ mod printing;
 #[cfg(test)]
 mod proved;
 #[cfg(test)]
+mod read_back;
+#[cfg(test)]
 mod reading;
 #[cfg(test)]
 mod refused;
