@@ -1,0 +1,208 @@
+//! What is wrong at a place of a value that is read.
+
+use crate::fault::{At, Fault, found_in, found_text};
+use crate::tree::{Container, Due, Frame, TreeFormat};
+use jzon::JsonValue;
+use jzon::number::Number;
+use jzon_pointer::error::{Expected, Found, What};
+use jzon_pointer::push_token;
+use serde::{Name, NameKind};
+use std::alloc::AllocError;
+use std::fmt::Write;
+use std::result::Result;
+
+impl<'v> TreeFormat<'v> {
+    /// The value that was begun last, or the container if none was.
+    fn last(&self) -> Option<&'v JsonValue> {
+        if self.place.frame.begun > 0 {
+            return begun_last(&self.place.frame);
+        }
+        begun_last(self.frames.get(self.place.frame.level.saturating_sub(1))?)
+    }
+
+    /// Its pointer.
+    fn pointer(&self) -> Result<String, AllocError> {
+        let mut around = Vec::new(self.alloc);
+        let mut frame = self.place.frame;
+        for _ in 0..self.frames.len() {
+            around.push(frame)?;
+            match self.frames.get(frame.level.saturating_sub(1)) {
+                Some(outer) => frame = *outer,
+                None => break,
+            }
+        }
+        let mut pointer = String::new(self.alloc);
+        for frame in around.iter().rev() {
+            push_step(&mut pointer, frame)?;
+        }
+        Ok(pointer)
+    }
+
+    #[cold]
+    #[inline(never)]
+    pub(crate) fn fault(&self, what: What, at: At) -> Fault {
+        self.pointer().map_or(
+            Fault::MEMORY,
+            |pointer| Fault::new(self.alloc, pointer, what, at),
+        )
+    }
+
+    fn wrong(&self, expected: Expected, found: Found, at: At) -> Fault {
+        self.fault(What::Wrong { expected, found }, at)
+    }
+
+    /// The error of the value that was read last, which isn't what is expected.
+    #[cold]
+    #[inline(never)]
+    pub(crate) fn expected(&self, expected: Expected) -> Fault {
+        match self.last() {
+            Some(value) => found_in(self.alloc, value).map_or(
+                Fault::MEMORY,
+                |found| self.wrong(expected, found, At::Value),
+            ),
+            None => self.misused(),
+        }
+    }
+
+    /// As `expected`, of a key.
+    #[cold]
+    #[inline(never)]
+    pub(crate) fn wrong_key(&self, expected: &'static str, key: &str) -> Fault {
+        let expected = Expected::Other(expected);
+        found_text(self.alloc, key).map_or(
+            Fault::MEMORY,
+            |found| self.wrong(expected, found, At::Key),
+        )
+    }
+
+    /// The error of a number of which digits may have been cut.
+    #[cold]
+    pub(crate) fn cut(&self, number: Number) -> Fault {
+        let expected = Expected::Other("an integer");
+        let found = Found::Number(number);
+        self.fault(What::Cut { expected, found }, At::Value)
+    }
+
+    /// A number is too large for a float.
+    #[cold]
+    pub(crate) fn too_large(&self) -> Fault {
+        match (self.place.due, self.key) {
+            (Due::Value(_), Some(key)) => self.wrong_key("a number in a float's range", key),
+            _ => self.expected(Expected::Other("a number in a float's range")),
+        }
+    }
+
+    /// A value of the type's own kind that none of its values is. What was read as an integer is out
+    /// of the type's range.
+    #[cold]
+    pub(crate) fn misfit(&self) -> Fault {
+        match (self.place.due, self.key, self.last()) {
+            (Due::Value(_), Some(key), _) => self.wrong_key("a key of its type", key),
+            (Due::Nothing, _, Some(JsonValue::Number(_))) => {
+                self.expected(Expected::Other("an integer in the range of its type"))
+            }
+            _ => self.expected(Expected::Other("a value of its type")),
+        }
+    }
+
+    /// A reader that was written by hand takes steps that don't fit.
+    #[cold]
+    #[inline(never)]
+    pub(crate) fn misused(&self) -> Fault {
+        self.said("the type's reader asks for what isn't there")
+    }
+
+    /// What a type's own reader says.
+    #[cold]
+    pub(crate) fn said(&self, words: &str) -> Fault {
+        String::from_str(self.alloc, words).map_or(
+            Fault::MEMORY,
+            |words| self.fault(What::Custom(words), At::Value),
+        )
+    }
+
+    /// The error of an object in which the field of this name is missing.
+    #[cold]
+    pub(crate) fn lacks(&self, name: &str) -> Fault {
+        self.missing_key(name).unwrap_or(Fault::MEMORY)
+    }
+
+    /// The error of the entry that the field `name` would be read from.
+    fn missing_key(&self, name: &str) -> Result<Fault, AllocError> {
+        let mut pointer = self.pointer()?;
+        let Some(case) = self.spelling.case else {
+            let words = format!(in self.alloc; "the field {name} is missing")?;
+            return Ok(self.fault(What::Custom(words), At::Value));
+        };
+        let mut key = String::new(self.alloc);
+        case.append(NameKind::Field, name, &mut key)?;
+        push_token(&mut pointer, key.as_str())?;
+        let what = What::Missing(Expected::Value);
+        Ok(Fault::new(self.alloc, pointer, what, At::Object))
+    }
+
+    /// Keeps the error that none of the variants' names is there. A type may have a variant for that.
+    #[cold]
+    #[inline(never)]
+    pub(crate) fn note_variants(&mut self, names: &[Name<'_>], at: At) {
+        let mut words = String::new(self.alloc);
+        self.unknown = Some(match push_names(&mut words, names) {
+            Ok(()) => self.fault(What::Custom(words), at),
+            Err(_refused) => Fault::MEMORY,
+        });
+    }
+
+    /// The error that `note_variants` kept, or that of a misfit if it kept none.
+    #[cold]
+    pub(crate) fn unknown_name(&self) -> Fault {
+        match &self.unknown {
+            Some(fault) => fault.copied(self.alloc).unwrap_or(Fault::MEMORY),
+            None => self.misfit(),
+        }
+    }
+}
+
+/// How many bytes of names an error has, about: no more are shown.
+const NAMES_ROOM: usize = 200;
+
+/// Appends the names, as they are spelled in JSON.
+fn push_names(words: &mut String, names: &[Name<'_>]) -> Result<(), AllocError> {
+    let mut before = "expected one of ";
+    for name in names {
+        if name.skipped || words.len() > NAMES_ROOM {
+            continue;
+        }
+        words.push_str(before)?;
+        name.case.append(name.kind, name.name, words)?;
+        before = ", ";
+    }
+    Ok(())
+}
+
+/// The member that was begun last.
+fn begun_last<'v>(frame: &Frame<'v>) -> Option<&'v JsonValue> {
+    let at = frame.begun.saturating_sub(1);
+    match frame.container {
+        Container::Whole(value) => Some(value),
+        Container::Seq(items) => items.get(at),
+        Container::Map(object) => Some(object.get_index(at)?.1),
+    }
+}
+
+/// Appends the step to the member that was begun last, if one was.
+fn push_step(pointer: &mut String, frame: &Frame<'_>) -> Result<(), AllocError> {
+    let Some(at) = frame.begun.checked_sub(1) else {
+        return Ok(());
+    };
+    match frame.container {
+        Container::Whole(_) => Ok(()),
+        Container::Seq(_) => match write!(pointer, "/{at}") {
+            Ok(()) => Ok(()),
+            Err(_refused) => Err(AllocError),
+        },
+        Container::Map(object) => match object.get_index(at) {
+            Some((key, _)) => push_token(pointer, key),
+            None => Ok(()),
+        },
+    }
+}

@@ -1,0 +1,404 @@
+//! A `Serializer` of `serde`: which event may come, and what it means. A `Sink` makes a value or a
+//! text of it.
+
+ghost use Rattle.std.specs.Prelude.{◌≤◌, length, OnOk};
+
+use crate::fault::{At, Fault};
+use crate::number::number_of;
+use crate::wrappers::EXACT;
+use jzon::number::Number;
+use jzon_pointer::error::What;
+use serde::{Case, NameKind, Serializer};
+use std::alloc::Global;
+use std::cell::Cell;
+use std::fmt::{Display, Write};
+use std::result::Result;
+
+/// How many containers may be open: as many as a text that is read.
+pub(crate) const MAX_DEPTH: usize = 512;
+
+/// What is made of a value's parts, which come in the order of its text.
+pub(crate) trait Sink {
+    fn put_null(&mut self) -> Result<(), Fault>;
+
+    fn put_bool(&mut self, truth: bool) -> Result<(), Fault>;
+
+    fn put_number(&mut self, number: Number) -> Result<(), Fault>;
+
+    fn put_string(&mut self, text: &str) -> Result<(), Fault>;
+
+    /// A key, where one is due. After `flatten_next` only a map may come.
+    fn put_key(&mut self, key: &str) -> Result<(), Fault>;
+
+    /// An element follows.
+    fn begin_element(&mut self) -> Result<(), Fault>;
+
+    /// Opens a map or a list.
+    fn open(&mut self, is_map: bool) -> Result<(), Fault>;
+
+    /// Closes the innermost map or list.
+    fn close(&mut self, is_map: bool) -> Result<(), Fault>;
+}
+
+/// What may come next in the innermost container.
+#[derive(Clone, Copy, PartialEq, Eq)]
+enum Due {
+    Whole,
+    Nothing,
+    Element,
+    Key,
+    EntryValue,
+}
+
+/// A container that is open.
+#[derive(Clone, Copy)]
+struct Level {
+    due: Due,
+    /// How many maps are open in it whose entries go into it.
+    flat: usize,
+}
+
+#[derive(Drop)]
+pub(crate) struct Events<S: Sink + Drop> {
+    alloc: Global,
+    sink: S,
+    around: Vec<Level>,
+    level: Level,
+    /// Room for a name in another case, and for a printed text.
+    room: String,
+    /// The next value is an entry's key.
+    at_key: bool,
+    /// The next map's entries go into the map that is open.
+    flattens: bool,
+    /// The decimal that `Exact` told, which the next float or list stands for.
+    exact: Cell<Option<Number>>,
+}
+
+impl<S: Sink + Drop> Events<S> {
+    pub(crate) fn new(alloc: Global, sink: S) -> Events<S> {
+        Events {
+            alloc,
+            sink,
+            around: Vec::new(alloc),
+            level: Level {
+                due: Due::Whole,
+                flat: 0,
+            },
+            room: String::new(alloc),
+            at_key: false,
+            flattens: false,
+            exact: Cell::new(None),
+        }
+    }
+
+    /// What was made, if one whole value came.
+    pub(crate) fn finish(self) -> Result<S, Fault> {
+        let Events {
+            alloc,
+            sink,
+            around,
+            level,
+            ..
+        } = self;
+        if around.is_empty() && level.due == Due::Nothing {
+            return Ok(sink);
+        }
+        Err(unfit(alloc, "no whole value is written"))
+    }
+
+    /// A value comes next that is no key.
+    #[inline(always)]
+    fn begin_value(&mut self) -> Result<(), Fault> {
+        if self.flattens {
+            return Err(self.refused("only a map is flattened"));
+        }
+        let due = self.level.due;
+        match due {
+            Due::EntryValue => self.level.due = Due::Key,
+            Due::Whole => self.level.due = Due::Nothing,
+            Due::Element => return self.sink.begin_element(),
+            Due::Key | Due::Nothing => return Err(self.refused("a value where none is due")),
+        }
+        Ok(())
+    }
+
+    #[inline(always)]
+    fn put_key(&mut self, key: &str) -> Result<(), Fault> {
+        if self.level.due != Due::Key || self.flattens {
+            return Err(self.refused("a key where none is due"));
+        }
+        self.level.due = Due::EntryValue;
+        self.sink.put_key(key)
+    }
+
+    #[inline(always)]
+    fn put_number(&mut self, number: Number) -> Result<(), Fault> {
+        self.begin_value()?;
+        self.sink.put_number(number)
+    }
+
+    /// A string, or a key.
+    #[inline(always)]
+    fn put_text(&mut self, text: &str) -> Result<(), Fault> {
+        if self.at_key {
+            return self.put_key(text);
+        }
+        self.begin_value()?;
+        self.sink.put_string(text)
+    }
+
+    /// Writes `v`; `number` is `None` if it has more than 64 bits. A key is printed in full.
+    #[inline(always)]
+    fn put_integer<T: Display>(&mut self, v: &T, number: Option<Number>) -> Result<(), Fault> {
+        match number {
+            _ if self.at_key => self.put_printed(v),
+            Some(number) => self.put_number(number),
+            None => Err(self.refused("an integer of more than 64 bits")),
+        }
+    }
+
+    /// The decimal of a float's shortest text, or a key.
+    fn put_float(&mut self, text: &str) -> Result<(), Fault> {
+        if self.at_key {
+            return self.put_key(text);
+        }
+        match number_of(text) {
+            Some(number) => self.put_number(number),
+            None => Err(self.refused("a float without a decimal")),
+        }
+    }
+
+    /// A printed text, as a string or as a key.
+    fn put_printed<T: Display>(&mut self, printed: &T) -> Result<(), Fault> {
+        let mut room = std::mem::replace(&mut self.room, String::new(self.alloc));
+        room.clear();
+        let done = match write!(room, "{printed}") {
+            Ok(()) => self.put_text(room.as_str()),
+            Err(_refused) => Err(Fault::MEMORY),
+        };
+        self.room = room;
+        done
+    }
+
+    /// A name, as a key or as a string.
+    fn put_name(&mut self, kind: NameKind, name: &str, case: Case, key: bool) -> Result<(), Fault> {
+        let mut room = std::mem::replace(&mut self.room, String::new(self.alloc));
+        room.clear();
+        case.append(kind, name, &mut room)?;
+        let done = if key {
+            self.put_key(room.as_str())
+        } else {
+            self.put_text(room.as_str())
+        };
+        self.room = room;
+        done
+    }
+
+    fn open(&mut self, is_map: bool) -> Result<(), Fault>
+        ensures within { OnOk result (length self.new.around.items ≤ 512) }
+    {
+        if self.at_key {
+            return Err(self.refused("a key is a string, a number or a boolean"));
+        }
+        self.begin_value()?;
+        if self.around.len() >= MAX_DEPTH {
+            return Err(self.refused("more than 512 containers are open"));
+        }
+        self.around.push(self.level)?;
+        let due = if is_map { Due::Key } else { Due::Element };
+        self.level = Level { due, flat: 0 };
+        self.sink.open(is_map)
+    }
+
+    fn close(&mut self, is_map: bool) -> Result<(), Fault> {
+        let due = if is_map { Due::Key } else { Due::Element };
+        if self.level.due != due {
+            return Err(self.refused("no such container ends here"));
+        }
+        let Some(level) = self.around.pop() else {
+            return Err(self.refused("no container is open"));
+        };
+        self.level = level;
+        self.sink.close(is_map)
+    }
+
+    #[cold]
+    #[inline(never)]
+    fn refused(&self, words: &'static str) -> Fault {
+        unfit(self.alloc, words)
+    }
+}
+
+#[cold]
+fn unfit(alloc: Global, words: &'static str) -> Fault {
+    Fault::new(alloc, String::new(alloc), What::Said(words), At::Value)
+}
+
+impl<S: Sink + Drop> Serializer for Events<S> {
+    type Error = Fault;
+
+    fn bool(&mut self, v: bool) -> Result<(), Fault> {
+        if self.at_key {
+            return self.put_key(if v { "true" } else { "false" });
+        }
+        self.begin_value()?;
+        self.sink.put_bool(v)
+    }
+
+    fn i64(&mut self, v: i64) -> Result<(), Fault> {
+        self.put_integer(&v, Some(Number::from(v)))
+    }
+
+    fn u64(&mut self, v: u64) -> Result<(), Fault> {
+        self.put_integer(&v, Some(Number::from(v)))
+    }
+
+    fn i128(&mut self, v: i128) -> Result<(), Fault> {
+        let size = u64::try_from(v.unsigned_abs()).ok();
+        self.put_integer(
+            &v,
+            size.map(|size| Number::from_parts_unchecked(v >= 0, size, 0)),
+        )
+    }
+
+    fn u128(&mut self, v: u128) -> Result<(), Fault> {
+        self.put_integer(&v, u64::try_from(v).ok().map(Number::from))
+    }
+
+    /// The shortest decimal that is read back as the same float.
+    fn f32(&mut self, v: f32) -> Result<(), Fault> {
+        if !v.is_finite() {
+            return Err(self.refused("a float that is no number"));
+        }
+        let mut buffer = ryu::Buffer::new();
+        self.put_float(buffer.format_finite(v))
+    }
+
+    /// As `f32`. After the words of `Exact` it is the decimal itself.
+    fn f64(&mut self, v: f64) -> Result<(), Fault> {
+        if let Some(number) = self.exact.take() {
+            return self.put_integer(&number, Some(number));
+        }
+        if !v.is_finite() {
+            return Err(self.refused("a float that is no number"));
+        }
+        let mut buffer = ryu::Buffer::new();
+        self.put_float(buffer.format_finite(v))
+    }
+
+    fn char(&mut self, v: char) -> Result<(), Fault> {
+        let mut bytes = [0u8; 4];
+        self.put_text(v.encode_utf8(&mut bytes))
+    }
+
+    fn str(&mut self, v: &str) -> Result<(), Fault> {
+        self.put_text(v)
+    }
+
+    /// An array of numbers.
+    fn bytes(&mut self, v: &[u8]) -> Result<(), Fault> {
+        self.open(false)?;
+        for byte in v {
+            self.put_number(Number::from(*byte))?;
+        }
+        self.close(false)
+    }
+
+    fn unit(&mut self) -> Result<(), Fault> {
+        if self.at_key {
+            return Err(self.refused("a key is a string, a number or a boolean"));
+        }
+        if self.flattens {
+            self.flattens = false;
+            return Ok(());
+        }
+        self.begin_value()?;
+        self.sink.put_null()
+    }
+
+    fn str_cased(&mut self, name: &str, case: Case) -> Result<(), Fault> {
+        if let Case::AsIs = case {
+            return self.put_text(name);
+        }
+        self.put_name(NameKind::Variant, name, case, self.at_key)
+    }
+
+    /// After the words of `Exact` and `begin_key` it is the decimal itself, which is no key.
+    fn begin_seq(&mut self, _len: Option<usize>) -> Result<(), Fault> {
+        if let Some(number) = self.exact.take() {
+            self.at_key = false;
+            return self.put_number(number);
+        }
+        self.open(false)
+    }
+
+    fn end_seq(&mut self) -> Result<(), Fault> {
+        self.close(false)
+    }
+
+    fn begin_map(&mut self, _len: Option<usize>) -> Result<(), Fault> {
+        if !self.flattens {
+            return self.open(true);
+        }
+        self.flattens = false;
+        if self.level.due != Due::Key {
+            return Err(self.refused("no map is open"));
+        }
+        self.level.flat = self.level.flat.saturating_add(1);
+        Ok(())
+    }
+
+    fn end_map(&mut self) -> Result<(), Fault> {
+        if self.level.flat > 0 && self.level.due == Due::Key {
+            self.level.flat -= 1;
+            return Ok(());
+        }
+        self.close(true)
+    }
+
+    fn key_cased(&mut self, name: &str, case: Case) -> Result<(), Fault> {
+        if let Case::AsIs = case {
+            return self.put_key(name);
+        }
+        self.put_name(NameKind::Field, name, case, true)
+    }
+
+    fn variant_key(&mut self, name: &str, case: Case) -> Result<(), Fault> {
+        if let Case::AsIs = case {
+            return self.put_key(name);
+        }
+        self.put_name(NameKind::Variant, name, case, true)
+    }
+
+    fn begin_key(&mut self) -> Result<(), Fault> {
+        self.at_key = true;
+        Ok(())
+    }
+
+    fn end_key(&mut self) -> Result<(), Fault> {
+        self.at_key = false;
+        Ok(())
+    }
+
+    fn flatten_next(&mut self) -> Result<(), Fault> {
+        self.flattens = true;
+        Ok(())
+    }
+
+    /// What the type's own writer says. The words of `Exact` are kept until the next event.
+    fn custom(&self, message: &str) -> Fault {
+        if let Some(digits) = message.strip_prefix(EXACT) {
+            self.exact.set(number_of(digits));
+            return Fault::MEMORY;
+        }
+        let alloc = self.alloc;
+        match String::from_str(alloc, message) {
+            Ok(words) => Fault::new(alloc, String::new(alloc), What::Custom(words), At::Value),
+            Err(_refused) => Fault::MEMORY,
+        }
+    }
+
+    fn collect_str<T: Display>(&mut self, value: &T) -> Result<(), Fault> {
+        self.put_printed(value)
+    }
+}

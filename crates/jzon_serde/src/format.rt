@@ -1,0 +1,427 @@
+//! The steps of a reader over a value.
+
+use crate::fault::{At, Fault};
+use crate::number::{may_be_cut, whole};
+use crate::tree::{Container, Due, Mark, TreeFormat};
+use jzon::JsonValue;
+use jzon::util::print_dec::number_text;
+use jzon_pointer::error::{Expected, What};
+use serde::{Format, Kind, Name, NameKind, find};
+use std::alloc::Global;
+use std::result::Result;
+
+impl<'v> TreeFormat<'v> {
+    /// A number as an integer, unless digits of it may have been cut.
+    #[inline(never)]
+    fn integer(&mut self, expected: &'static str) -> Result<i128, Fault> {
+        let Some(number) = self.look()?.as_number() else {
+            return Err(self.expected(Expected::Other(expected)));
+        };
+        match whole(number) {
+            Some(_) if may_be_cut(number) => Err(self.cut(number)),
+            Some(integer) => {
+                self.pass();
+                Ok(integer)
+            }
+            // Its digits are followed by zeros: it has no fraction.
+            None if number.as_parts().2 > 0 => Err(self.expected(WIDE)),
+            None => Err(self.expected(Expected::Other(expected))),
+        }
+    }
+
+    #[inline(never)]
+    fn unsigned(&mut self) -> Result<u64, Fault> {
+        let integer = self.integer(UNSIGNED)?;
+        u64::try_from(integer).map_err(|_| self.expected(Expected::Other(UNSIGNED)))
+    }
+
+    /// The integer of a key, if it spells one in the one way: no plus, and no zero before other
+    /// digits. So two keys of an object aren't one of a map.
+    fn integer_key<T: Drop>(
+        &self,
+        key: &str,
+        parsed: Option<T>,
+        expected: &'static str,
+    ) -> Result<T, Fault> {
+        match parsed {
+            Some(integer) if is_plain(key) => Ok(integer),
+            _ => Err(self.wrong_key(expected, key)),
+        }
+    }
+
+    /// The float nearest to a number, or to the number that a key spells.
+    fn float<F: fast_float::FastFloat>(&mut self) -> Result<F, Fault> {
+        if let Some(key) = self.key() {
+            return match fast_float::parse::<F, _>(key) {
+                Ok(x) => Ok(x),
+                Err(_) => Err(self.wrong_key("a number", key)),
+            };
+        }
+        let number = self.number()?;
+        let (positive, mantissa, exponent) = number.as_parts();
+        Ok(fast_float::from_parts(!positive, mantissa, i64::from(exponent)))
+    }
+
+    /// The bytes that the numbers of an array are.
+    fn bytes_of_items(&mut self, alloc: Global) -> Result<Vec<u8>, Fault> {
+        let mut bytes = Vec::new(alloc);
+        for _ in 0..u64::MAX {
+            if !self.next_item(&[])? {
+                return Ok(bytes);
+            }
+            let Ok(byte) = u8::try_from(self.u64(&[])?) else {
+                return Err(self.misfit());
+            };
+            bytes.push(byte)?;
+        }
+        Err(Fault::MEMORY)
+    }
+}
+
+const UNSIGNED: &str = "an integer of at least 0";
+
+const SIGNED: &str = "an integer";
+
+const WIDE: Expected = Expected::Other("an integer of at most 64 bits");
+
+/// Whether the names are those of variants.
+#[inline(always)]
+fn is_of_variants(names: &[Name<'_>]) -> bool {
+    names
+        .first()
+        .is_some_and(|name| name.kind == NameKind::Variant)
+}
+
+/// Whether a value is read as null. Only a program makes NaN, which is printed as null.
+#[inline(always)]
+fn is_null(value: &JsonValue) -> bool {
+    match value {
+        JsonValue::Null => true,
+        JsonValue::Number(number) => number.is_nan(),
+        _ => false,
+    }
+}
+
+/// Whether an integer's text has no plus, and no zero before other digits.
+fn is_plain(key: &str) -> bool {
+    match key.strip_prefix('-').unwrap_or(key).as_bytes() {
+        [b'0'] => key.len() == 1,
+        [first, ..] => matches!(first, b'1'..=b'9'),
+        [] => false,
+    }
+}
+
+impl<'v> Format for TreeFormat<'v> {
+    type Error = Fault;
+
+    type Mark = Mark<'v>;
+
+    #[inline(always)]
+    fn bool(&mut self, _input: &[u8]) -> Result<bool, Fault> {
+        if let Some(key) = self.key() {
+            return match key {
+                "true" => Ok(true),
+                "false" => Ok(false),
+                _ => Err(self.wrong_key("true or false", key)),
+            };
+        }
+        match self.look()? {
+            JsonValue::Boolean(truth) => {
+                self.pass();
+                Ok(*truth)
+            }
+            _ => Err(self.expected(Expected::Boolean)),
+        }
+    }
+
+    #[inline(always)]
+    fn i64(&mut self, _input: &[u8]) -> Result<i64, Fault> {
+        if let Some(key) = self.key() {
+            return self.integer_key(key, key.parse().ok(), SIGNED);
+        }
+        if let Some(integer) = self.look()?.as_i64() {
+            self.pass();
+            return Ok(integer);
+        }
+        i64::try_from(self.integer(SIGNED)?).map_err(|_| self.misfit())
+    }
+
+    #[inline(always)]
+    fn u64(&mut self, _input: &[u8]) -> Result<u64, Fault> {
+        if let Some(key) = self.key() {
+            return self.integer_key(key, key.parse().ok(), UNSIGNED);
+        }
+        if let Some(integer) = self.look()?.as_u64() {
+            self.pass();
+            return Ok(integer);
+        }
+        self.unsigned()
+    }
+
+    fn i128(&mut self, _input: &[u8]) -> Result<i128, Fault> {
+        match self.key() {
+            Some(key) => self.integer_key(key, key.parse().ok(), SIGNED),
+            None => self.integer(SIGNED),
+        }
+    }
+
+    fn u128(&mut self, _input: &[u8]) -> Result<u128, Fault> {
+        match self.key() {
+            Some(key) => self.integer_key(key, key.parse().ok(), UNSIGNED),
+            None => Ok(u128::from(self.unsigned()?)),
+        }
+    }
+
+    fn f32(&mut self, _input: &[u8]) -> Result<f32, Fault> {
+        let x = self.float::<f32>()?;
+        if x.is_finite() {
+            Ok(x)
+        } else {
+            Err(self.too_large())
+        }
+    }
+
+    fn f64(&mut self, _input: &[u8]) -> Result<f64, Fault> {
+        let x = self.float::<f64>()?;
+        if x.is_finite() {
+            Ok(x)
+        } else {
+            Err(self.too_large())
+        }
+    }
+
+    fn char(&mut self, _input: &[u8]) -> Result<char, Fault> {
+        match self.text()?.parse::<char>() {
+            Ok(c) => Ok(c),
+            Err(_) => Err(self.expected(Expected::Other("one character"))),
+        }
+    }
+
+    /// A value's strings don't stand in one input.
+    fn plain_str(&mut self, _input: &[u8]) -> Result<(usize, usize), Fault> {
+        Err(self.said("nothing is borrowed from a value: take a `String`"))
+    }
+
+    fn plain_bytes(&mut self, input: &[u8]) -> Result<(usize, usize), Fault> {
+        self.plain_str(input)
+    }
+
+    #[inline(always)]
+    fn string(&mut self, alloc: Global, _input: &[u8]) -> Result<String, Fault> {
+        Ok(String::from_str(alloc, self.text()?)?)
+    }
+
+    /// A string's bytes, an array of numbers, or the text of a number, by which `Exact` takes it.
+    fn byte_buf(&mut self, alloc: Global, input: &[u8]) -> Result<Vec<u8>, Fault> {
+        if let Due::Value(value) = self.place.due {
+            match value {
+                JsonValue::Number(number) if !number.is_nan() => {
+                    self.pass();
+                    let (positive, mantissa, exponent) = number.as_parts();
+                    let text = number_text(positive, mantissa, exponent);
+                    return Ok(Vec::from_slice(alloc, text.as_str().as_bytes())?);
+                }
+                JsonValue::Array(_) => {
+                    self.begin_seq(input)?;
+                    return self.bytes_of_items(alloc);
+                }
+                _ => {}
+            }
+        }
+        Ok(Vec::from_slice(alloc, self.text()?.as_bytes())?)
+    }
+
+    fn peek(&mut self, _input: &[u8]) -> Result<Kind, Fault> {
+        if let Due::Key(_, _) = self.place.due {
+            return Ok(Kind::Str);
+        }
+        match self.look()? {
+            JsonValue::Null => Ok(Kind::Unit),
+            JsonValue::Boolean(_) => Ok(Kind::Bool),
+            JsonValue::Short(_) | JsonValue::String(_) => Ok(Kind::Str),
+            JsonValue::Array(_) => Ok(Kind::Seq),
+            JsonValue::Object(_) => Ok(Kind::Map),
+            JsonValue::Number(number) if number.is_nan() => Ok(Kind::Unit),
+            JsonValue::Number(number) => match number.as_parts() {
+                (true, _, 0) => Ok(Kind::Unsigned),
+                (false, mantissa, 0) if 0 < mantissa && mantissa <= 1 << 63 => Ok(Kind::Signed),
+                _ => Ok(Kind::Float),
+            },
+        }
+    }
+
+    #[inline(always)]
+    fn take_unit(&mut self, _input: &[u8]) -> Result<bool, Fault> {
+        let value = match self.place.due {
+            Due::Value(value) => value,
+            Due::Key(_, _) => return Ok(false),
+            Due::Nothing => return Err(self.misused()),
+        };
+        if is_null(value) {
+            self.pass();
+            return Ok(true);
+        }
+        self.key = None;
+        Ok(false)
+    }
+
+    #[inline(always)]
+    fn take_none(&mut self, input: &[u8]) -> Result<bool, Fault> {
+        self.take_unit(input)
+    }
+
+    #[inline(always)]
+    fn begin_seq(&mut self, _input: &[u8]) -> Result<(), Fault> {
+        let due = self.place.due;
+        match due {
+            Due::Value(JsonValue::Array(items)) => self.enter(Container::Seq(items.as_slice())),
+            _ => Err(self.expected(Expected::Array)),
+        }
+    }
+
+    #[inline(always)]
+    fn next_item(&mut self, _input: &[u8]) -> Result<bool, Fault> {
+        let Container::Seq(items) = self.place.frame.container else {
+            return Err(self.misused());
+        };
+        if let Due::Value(_) = self.place.due {
+            return Ok(true);
+        }
+        let Some(item) = items.get(self.place.frame.begun) else {
+            self.leave();
+            return Ok(false);
+        };
+        self.place.frame.begun = self.place.frame.begun.saturating_add(1);
+        self.place.due = Due::Value(item);
+        Ok(true)
+    }
+
+    #[inline(always)]
+    fn begin_map(&mut self, _input: &[u8]) -> Result<(), Fault> {
+        let due = self.place.due;
+        match due {
+            Due::Value(JsonValue::Object(object)) => self.enter(Container::Map(object)),
+            _ => Err(self.expected(Expected::Object)),
+        }
+    }
+
+    #[inline(always)]
+    fn begin_struct(&mut self, _input: &[u8]) -> Result<bool, Fault> {
+        let due = self.place.due;
+        match due {
+            Due::Value(JsonValue::Object(object)) => {
+                self.enter(Container::Map(object))?;
+                Ok(false)
+            }
+            Due::Value(JsonValue::Array(items)) => {
+                self.enter(Container::Seq(items.as_slice()))?;
+                self.spelling.case = None;
+                Ok(true)
+            }
+            _ => Err(self.expected(Expected::Object)),
+        }
+    }
+
+    #[inline(always)]
+    fn next_key(&mut self, _input: &[u8], names: &[Name<'_>]) -> Result<Option<usize>, Fault> {
+        let Some((key, value)) = self.entry()? else {
+            self.note_spelling(names);
+            return Ok(None);
+        };
+        self.place.due = Due::Value(value);
+        let at = find(names, key);
+        if at == usize::MAX && is_of_variants(names) {
+            self.note_variants(names, At::Key);
+        }
+        Ok(Some(at))
+    }
+
+    fn next_entry(&mut self, _input: &[u8]) -> Result<bool, Fault> {
+        let Some((key, value)) = self.entry()? else {
+            return Ok(false);
+        };
+        self.place.due = Due::Key(key, value);
+        Ok(true)
+    }
+
+    fn variant(&mut self, _input: &[u8], names: &[Name<'_>]) -> Result<usize, Fault> {
+        let name = self.text()?;
+        let at = find(names, name);
+        if at == usize::MAX {
+            let stands = match self.place.due {
+                Due::Nothing => At::Value,
+                _ => At::Key,
+            };
+            self.note_variants(names, stands);
+        }
+        Ok(at)
+    }
+
+    #[inline(always)]
+    fn skip(&mut self, _input: &[u8]) -> Result<(), Fault> {
+        match self.place.due {
+            Due::Value(_) => self.place.due = Due::Nothing,
+            Due::Key(_, value) => self.place.due = Due::Value(value),
+            Due::Nothing => return Err(self.misused()),
+        }
+        Ok(())
+    }
+
+    fn mark(&mut self) -> Mark<'v> {
+        let mark = Mark {
+            place: self.place,
+            frames: self.frames.len(),
+            kept: self.kept,
+        };
+        self.kept = mark.frames;
+        mark
+    }
+
+    fn rewind(&mut self, mark: Mark<'v>) {
+        self.place = mark.place;
+        self.key = None;
+        self.kept = mark.frames;
+        self.frames.truncate(mark.frames);
+    }
+
+    fn release(&mut self, mark: Mark<'v>) {
+        self.kept = mark.kept;
+        self.frames.truncate(self.place.frame.level.max(mark.kept));
+    }
+
+    fn is_fatal(&self, error: &Fault) -> bool {
+        error.is_memory()
+    }
+
+    fn missing(&self, name: &str) -> Fault {
+        self.lacks(name)
+    }
+
+    fn duplicate(&self, _name: &str) -> Fault {
+        self.fault(What::Said("given twice"), At::Key)
+    }
+
+    fn unknown_key(&self) -> Fault {
+        self.fault(What::Said("unknown key"), At::Key)
+    }
+
+    fn unknown_variant(&self) -> Fault {
+        self.unknown_name()
+    }
+
+    fn wrong_len(&self) -> Fault {
+        self.fault(What::Said("wrong number of elements"), At::Value)
+    }
+
+    fn invalid(&self) -> Fault {
+        self.misfit()
+    }
+
+    fn no_memory(&self) -> Fault {
+        Fault::MEMORY
+    }
+
+    fn custom(&self, message: &str) -> Fault {
+        self.said(message)
+    }
+}

@@ -1,0 +1,162 @@
+//! Types of `serde` read from JSON, and written as JSON, by its derives.
+//!
+//! Reading goes over a value (`tree`, `format`), writing sends the events of `Serialize` to a sink
+//! (`events`, `sinks`). docs/SERDE.md has examples.
+#![tactic(auto)]
+
+ghost use Rattle.std.specs.Prelude.{◌≡◌, chars, Err, IfErr, IsOk, None};
+ghost use Rattle.std.specs.Str.{IsUtf8};
+ghost use Rattle.jzon.specs.Error.TheVariants.{FailedUtf8Parsing};
+ghost use Rattle.jzon.specs.Reading.{strict_exact};
+ghost use Rattle.jzon_pointer.specs.Errors.{error_at};
+ghost use Rattle.jzon_serde.specs.Errors.{IsAccepted, IsOfReading, IsOfValue};
+
+mod errors;
+mod events;
+mod fault;
+mod format;
+mod number;
+mod sinks;
+mod tree;
+mod wrappers;
+
+use events::{Events, Sink};
+use fault::Fault;
+use jzon::codegen::{DumpGenerator, Generator, PrettyGenerator, WriterGenerator};
+use jzon::{JsonValue, Reading, parse_located};
+use jzon_pointer::error::Error;
+use serde::{DeserializeOwned, Deserializer, Serialize};
+use sinks::{Text, Tree};
+use std::alloc::Global;
+use std::io::Write;
+use std::result::Result;
+use std::{io, str};
+use tree::TreeFormat;
+pub use wrappers::{Exact, Json};
+
+/// How much room a text has at first, so that a small one needs one allocation.
+const FIRST_ROOM: usize = 1024;
+
+/// Reads a type of `serde` from a value. An error has a pointer and no place.
+///
+/// ```rust
+/// let back: T = from_value(alloc, &value)?;
+/// ```
+pub fn from_value<T: DeserializeOwned>(alloc: Global, value: &JsonValue) -> Result<T, Error>
+    ensures { IfErr result IsOfValue }
+{
+    read(alloc, value).map_err(|fault| fault.into_error(alloc))
+}
+
+/// Reads a type of `serde` from a text, strictly and exactly: a repeated key, and a number that would
+/// be cut, are errors. The error of a wrong value has its place in the text.
+///
+/// ```rust
+/// let mut config: Config = jzon_serde::from_str(alloc, text)?;
+/// ```
+pub fn from_str<T: DeserializeOwned>(alloc: Global, text: &str) -> Result<T, Error>
+    ensures accepted { IsOk result → IsAccepted strict_exact (chars text.now) }
+    ensures error { IfErr result (IsOfReading strict_exact text.now) }
+{
+    from_str_as(alloc, text, &Reading::LOSSLESS)
+}
+
+/// As `from_str`, by a reading of your choice.
+pub fn from_str_as<T: DeserializeOwned>(
+    alloc: Global,
+    text: &str,
+    reading: &Reading,
+) -> Result<T, Error>
+    ensures accepted { IsOk result → IsAccepted reading.now (chars text.now) }
+    ensures error { IfErr result (IsOfReading reading.now text.now) }
+{
+    let value = parse_located(alloc, text, reading)?;
+    match read(alloc, &value) {
+        Ok(read) => Ok(read),
+        Err(fault) => Err(fault.in_text(alloc, text, reading)),
+    }
+}
+
+/// As `from_str`, of bytes, which are an error if they aren't UTF-8.
+pub fn from_slice<T: DeserializeOwned>(alloc: Global, bytes: &[u8]) -> Result<T, Error>
+    ensures accepted { IsOk result → IsUtf8 bytes.now × IsAccepted strict_exact (chars bytes.now) }
+    ensures error { IsUtf8 bytes.now → IfErr result (IsOfReading strict_exact bytes.now) }
+    ensures bytes { ¬ IsUtf8 bytes.now → result ≡ Err (error_at FailedUtf8Parsing None) }
+{
+    match str::from_utf8(bytes) {
+        Ok(text) => from_str(alloc, text),
+        Err(_) => Err(Error::from(jzon::Error::FailedUtf8Parsing)),
+    }
+}
+
+/// The value that a type of `serde` is written as. Of a key that is written twice, as by a flattened
+/// map, the last value counts.
+///
+/// ```rust
+/// let mut value: JsonValue = jzon_serde::to_value(alloc, &order)?;
+/// ```
+pub fn to_value<T: Serialize>(alloc: Global, source: &T) -> Result<JsonValue, Error>
+    ensures { IfErr result IsOfValue }
+{
+    match written(alloc, source, Tree::new(alloc)) {
+        Ok(tree) => Ok(tree.into_value()),
+        Err(fault) => Err(fault.into_error(alloc)),
+    }
+}
+
+/// The compact text of a type of `serde`: that of `to_value`'s `dump`, without the value. A key that
+/// is written twice is twice in the text.
+///
+/// ```rust
+/// let text = to_string(alloc, &read)?;
+/// ```
+pub fn to_string<T: Serialize>(alloc: Global, source: &T) -> Result<String, Error> {
+    let mut out = DumpGenerator::new(alloc);
+    out.get_writer().reserve(FIRST_ROOM)?;
+    Ok(text_of(alloc, source, out)?.consume()?)
+}
+
+/// As `to_string`, with a line for each element and entry, indented by two spaces: that of `pretty`.
+pub fn to_string_pretty<T: Serialize>(alloc: Global, source: &T) -> Result<String, Error> {
+    let mut out = PrettyGenerator::new(alloc, 2);
+    out.get_writer().reserve(FIRST_ROOM)?;
+    Ok(text_of(alloc, source, out)?.consume()?)
+}
+
+/// Writes the compact text to a writer, in many small pieces: give it a `BufWriter`. An error is the
+/// writer's, or that of `to_string` as an `io::Error`; a part of the text may be written before it.
+///
+/// ```rust
+/// to_writer(alloc, &mut out, &json)?;
+/// ```
+pub fn to_writer<W: Write, T: Serialize>(alloc: Global, out: &mut W, source: &T) -> io::Result<()> {
+    match written(alloc, source, Text::new(alloc, WriterGenerator::new(out))) {
+        Ok(_text) => Ok(()),
+        Err(fault) => Err(fault.into_io(alloc)),
+    }
+}
+
+/// A type of all of a value.
+fn read<T: DeserializeOwned>(alloc: Global, value: &JsonValue) -> Result<T, Fault> {
+    let mut tree = TreeFormat::new(alloc, value);
+    let read = T::deserialize_owned(alloc, &mut Deserializer::new(&[], &mut tree))?;
+    tree.end()?;
+    Ok(read)
+}
+
+/// The generator that wrote a type.
+fn text_of<T: Serialize, G: Generator + Drop>(alloc: Global, source: &T, out: G) -> Result<G, Error>
+    ensures { IfErr result IsOfValue }
+{
+    match written(alloc, source, Text::new(alloc, out)) {
+        Ok(text) => Ok(text.into_generator()),
+        Err(fault) => Err(fault.into_error(alloc)),
+    }
+}
+
+/// What the sink makes of a type.
+fn written<T: Serialize, S: Sink + Drop>(alloc: Global, source: &T, sink: S) -> Result<S, Fault> {
+    let mut events = Events::new(alloc, sink);
+    source.serialize(&mut events)?;
+    events.finish()
+}

@@ -1,0 +1,229 @@
+//! What is made of a value's parts: a `JsonValue`, or a text.
+
+use crate::events::Sink;
+use crate::fault::Fault;
+use jzon::JsonValue;
+use jzon::codegen::Generator;
+use jzon::number::Number;
+use jzon::object::{Key, Object};
+use jzon::short::{MAX_LEN, Short};
+use std::alloc::Global;
+use std::io;
+use std::result::Result;
+
+/// A container that is open.
+#[derive(Drop)]
+struct Open {
+    /// The keys of a map.
+    keys: Vec<Key>,
+    /// The elements, or the values of all keys but perhaps the last.
+    values: Vec<JsonValue>,
+}
+
+/// A value, as far as it came.
+#[derive(Drop)]
+pub(crate) struct Tree {
+    alloc: Global,
+    open: Vec<Open>,
+    whole: JsonValue,
+}
+
+impl Tree {
+    pub(crate) fn new(alloc: Global) -> Tree {
+        Tree {
+            alloc,
+            open: Vec::new(alloc),
+            whole: JsonValue::Null,
+        }
+    }
+
+    /// The whole value, once it came.
+    pub(crate) fn into_value(self) -> JsonValue {
+        self.whole
+    }
+
+    /// Puts a value into the innermost container, or as the whole.
+    #[inline(always)]
+    fn put(&mut self, value: JsonValue) -> Result<(), Fault> {
+        let Some(open) = self.open.last_mut() else {
+            self.whole = value;
+            return Ok(());
+        };
+        Ok(open.values.push(value)?)
+    }
+
+    /// Puts a map's object. It has as many values as keys, since `Events` lets no map end elsewhere.
+    fn put_object(&mut self, keys: Vec<Key>, values: Vec<JsonValue>) -> Result<(), Fault> {
+        if keys.len() != values.len() {
+            return Err(Fault::MEMORY);
+        }
+        self.put(JsonValue::Object(Object::from_entries(self.alloc, keys, values)?))
+    }
+}
+
+impl Sink for Tree {
+    fn put_null(&mut self) -> Result<(), Fault> {
+        self.put(JsonValue::Null)
+    }
+
+    fn put_bool(&mut self, truth: bool) -> Result<(), Fault> {
+        self.put(JsonValue::Boolean(truth))
+    }
+
+    fn put_number(&mut self, number: Number) -> Result<(), Fault> {
+        self.put(JsonValue::Number(number))
+    }
+
+    fn put_string(&mut self, text: &str) -> Result<(), Fault> {
+        if text.len() <= MAX_LEN {
+            return self.put(JsonValue::Short(Short::from_slice(text)));
+        }
+        self.put(JsonValue::String(String::from_str(self.alloc, text)?))
+    }
+
+    fn put_key(&mut self, key: &str) -> Result<(), Fault> {
+        let key = Key::new(self.alloc, key)?;
+        match self.open.last_mut() {
+            Some(open) => Ok(open.keys.push(key)?),
+            None => Ok(()),
+        }
+    }
+
+    fn begin_element(&mut self) -> Result<(), Fault> {
+        Ok(())
+    }
+
+    fn open(&mut self, _is_map: bool) -> Result<(), Fault> {
+        let open = Open {
+            keys: Vec::new(self.alloc),
+            values: Vec::new(self.alloc),
+        };
+        Ok(self.open.push(open)?)
+    }
+
+    fn close(&mut self, is_map: bool) -> Result<(), Fault> {
+        let Some(Open { keys, values }) = self.open.pop() else {
+            return Ok(());
+        };
+        if is_map {
+            return self.put_object(keys, values);
+        }
+        self.put(JsonValue::Array(values))
+    }
+}
+
+/// A text, written by a generator as `JsonValue::generate` does.
+#[derive(Drop)]
+pub(crate) struct Text<G: Generator + Drop> {
+    alloc: Global,
+    out: G,
+    /// The writer's error, which a step that failed left here.
+    slot: Option<io::Error>,
+    /// How many containers are open.
+    depth: u64,
+    /// Nothing is written yet in the innermost container.
+    is_empty: bool,
+}
+
+impl<G: Generator + Drop> Text<G> {
+    pub(crate) fn new(alloc: Global, out: G) -> Text<G> {
+        Text {
+            alloc,
+            out,
+            slot: None,
+            depth: 0,
+            is_empty: false,
+        }
+    }
+
+    pub(crate) fn into_generator(self) -> G {
+        let Text { out, .. } = self;
+        out
+    }
+
+    /// The fault of a step of the generator that failed.
+    #[inline(always)]
+    fn done<E: Drop>(&mut self, step: Result<(), E>) -> Result<(), Fault> {
+        match step {
+            Ok(()) => Ok(()),
+            Err(_failed) => Err(self.failed()),
+        }
+    }
+
+    /// The writer's error, if it is one, or that of memory.
+    #[cold]
+    #[inline(never)]
+    fn failed(&mut self) -> Fault {
+        match self.slot.take() {
+            Some(error) => Fault::of_write(self.alloc, error),
+            None => Fault::MEMORY,
+        }
+    }
+
+    /// What stands before an element or a key.
+    fn separate(&mut self) -> Result<(), Fault> {
+        if self.is_empty {
+            self.is_empty = false;
+            self.out.set_dent(self.depth);
+        } else {
+            let step = self.out.try_write_char(b',', &mut self.slot);
+            self.done(step)?;
+        }
+        let step = self.out.try_new_line(&mut self.slot);
+        self.done(step)
+    }
+}
+
+impl<G: Generator + Drop> Sink for Text<G> {
+    fn put_null(&mut self) -> Result<(), Fault> {
+        let step = self.out.try_write(b"null", &mut self.slot);
+        self.done(step)
+    }
+
+    fn put_bool(&mut self, truth: bool) -> Result<(), Fault> {
+        let word: &[u8] = if truth { b"true" } else { b"false" };
+        let step = self.out.try_write(word, &mut self.slot);
+        self.done(step)
+    }
+
+    fn put_number(&mut self, number: Number) -> Result<(), Fault> {
+        let step = self.out.try_write_number(&number, &mut self.slot);
+        self.done(step)
+    }
+
+    fn put_string(&mut self, text: &str) -> Result<(), Fault> {
+        let step = self.out.try_write_string(text, &mut self.slot);
+        self.done(step)
+    }
+
+    fn put_key(&mut self, key: &str) -> Result<(), Fault> {
+        self.separate()?;
+        let step = self.out.try_write_key(key, &mut self.slot);
+        self.done(step)
+    }
+
+    fn begin_element(&mut self) -> Result<(), Fault> {
+        self.separate()
+    }
+
+    fn open(&mut self, is_map: bool) -> Result<(), Fault> {
+        self.depth = self.depth.saturating_add(1);
+        self.is_empty = true;
+        let bracket = if is_map { b'{' } else { b'[' };
+        let step = self.out.try_write_char(bracket, &mut self.slot);
+        self.done(step)
+    }
+
+    fn close(&mut self, is_map: bool) -> Result<(), Fault> {
+        self.depth = self.depth.saturating_sub(1);
+        if !self.is_empty {
+            self.out.set_dent(self.depth);
+            let step = self.out.try_new_line(&mut self.slot);
+            self.done(step)?;
+        }
+        self.is_empty = false;
+        let bracket = if is_map { b'}' } else { b']' };
+        let step = self.out.try_write_char(bracket, &mut self.slot);
+        self.done(step)
+    }
+}

@@ -1,0 +1,350 @@
+//! jzon's own types as fields of a type of `serde`. The types and the traits stand in other crates,
+//! so each is wrapped.
+
+ghost use Rattle.std.specs.Prelude.{Some};
+ghost use Rattle.jzon.specs.NumberText.{decimal_text};
+
+use crate::events::MAX_DEPTH;
+use crate::number::number_of;
+use jzon::JsonValue;
+use jzon::number::{NAN, Number};
+use jzon::object::{Key, Object};
+use jzon::short::{MAX_LEN, Short};
+use jzon::util::print_dec::number_text;
+use serde::{
+    Described, Deserialize, DeserializeOwned, Deserializer, Format, Kind, Serialize, Serializer,
+};
+use std::alloc::Global;
+use std::fmt;
+use std::fmt::{InlineText, Write};
+use std::ops::Deref;
+use std::result::Result;
+
+/// What `Exact` says before its digits; no type's own words begin so.
+pub(crate) const EXACT: &str = "\0jzon_serde::Exact ";
+
+/// Any value, as a field of a type of `serde`: its entries in their order, its numbers exact.
+///
+/// ```rust
+/// #[derive(Drop, Serialize, Deserialize)]
+/// pub struct Extra {
+///     kind: String,
+///     details: Json,
+///     more: Option<Json>,
+/// }
+/// ```
+#[derive(Debug, Drop)]
+pub struct Json(JsonValue);
+
+/// An exact decimal, as a field of a type of `serde`: it is read without rounding, and the calls of
+/// this crate write all of its digits.
+///
+/// `serde` has no step for a decimal. So other formats read the nearest float, and write a float if its
+/// shortest text means the number, which up to 15 digits in a float's range holds, and else return an
+/// error.
+#[derive(Clone, Copy, Debug, PartialEq, Eq)]
+pub struct Exact(Number);
+
+impl Deref for Json {
+    type Target = JsonValue;
+
+    fn deref(&self) -> &JsonValue {
+        &self.0
+    }
+}
+
+impl From<JsonValue> for Json {
+    fn from(value: JsonValue) -> Json {
+        Json(value)
+    }
+}
+
+impl From<Json> for JsonValue {
+    fn from(json: Json) -> JsonValue {
+        json.0
+    }
+}
+
+impl Deref for Exact {
+    type Target = Number;
+
+    fn deref(&self) -> &Number {
+        &self.0
+    }
+}
+
+impl From<Number> for Exact {
+    fn from(number: Number) -> Exact {
+        Exact(number)
+    }
+}
+
+impl From<Exact> for Number {
+    fn from(exact: Exact) -> Number {
+        exact.0
+    }
+}
+
+impl fmt::Display for Exact {
+    ghost output = { λ e. Some (decimal_text e.0) };
+
+    fn fmt<W: fmt::Write>(&self, f: &mut fmt::Formatter<W>) -> fmt::Result {
+        write!(f, "{}", self.0)
+    }
+}
+
+impl Described for Exact {}
+
+impl Described for Json {}
+
+impl Serialize for Exact {
+    fn serialize<S: Serializer>(&self, out: &mut S) -> Result<(), S::Error> {
+        if self.0.is_nan() {
+            return Err(out.custom("a decimal that is no number"));
+        }
+        send_number(self.0, out)
+    }
+}
+
+impl Serialize for Json {
+    fn serialize<S: Serializer>(&self, out: &mut S) -> Result<(), S::Error> {
+        send(&self.0, out, MAX_DEPTH)
+    }
+}
+
+/// An integer with the exponent 0, or else the decimal, told as an error's words: these change nothing
+/// in other formats. To them a float follows that means it, or a list as a key, which none takes.
+fn send_number<S: Serializer>(number: Number, out: &mut S) -> Result<(), S::Error> {
+    let (positive, mantissa, exponent) = number.as_parts();
+    if exponent == 0 && positive {
+        return out.u64(mantissa);
+    }
+    if exponent == 0 && 0 < mantissa {
+        let integer = -i128::from(mantissa);
+        return match i64::try_from(integer) {
+            Ok(narrow) => out.i64(narrow),
+            Err(_) => out.i128(integer),
+        };
+    }
+    let words = InlineText::<64>::of(EXACT).and(number, 32);
+    let _told = out.custom(words.as_str());
+    let float: f64 = fast_float::from_parts(!positive, mantissa, i64::from(exponent));
+    if survives(number, float) {
+        return out.f64(float);
+    }
+    out.begin_key()?;
+    out.begin_seq(None)
+}
+
+/// Whether the float's shortest text means the number.
+fn survives(number: Number, float: f64) -> bool {
+    if !float.is_finite() {
+        return false;
+    }
+    let mut buffer = ryu::Buffer::new();
+    number_of(buffer.format_finite(float)) == Some(number)
+}
+
+/// Writes any value.
+#[cycle(send)]
+fn send<S: Serializer>(value: &JsonValue, out: &mut S, depth: usize) -> Result<(), S::Error> {
+    match value {
+        JsonValue::Null => out.unit(),
+        JsonValue::Boolean(truth) => out.bool(*truth),
+        JsonValue::Number(number) if number.is_nan() => out.unit(),
+        JsonValue::Number(number) => send_number(*number, out),
+        JsonValue::Short(text) => out.str(text.as_str()),
+        JsonValue::String(text) => out.str(text.as_str()),
+        JsonValue::Array(items) if depth > 0 => send_items(items, out, depth - 1),
+        JsonValue::Object(object) if depth > 0 => send_entries(object, out, depth - 1),
+        _ => Err(out.custom("more than 512 containers are open")),
+    }
+}
+
+/// Writes the elements of an array.
+#[cycle(send)]
+fn send_items<S: Serializer>(
+    items: &Vec<JsonValue>,
+    out: &mut S,
+    depth: usize,
+) -> Result<(), S::Error> {
+    out.begin_seq(Some(items.len()))?;
+    for item in items {
+        send(item, out, depth)?;
+    }
+    out.end_seq()
+}
+
+/// Writes the entries of an object.
+#[cycle(send)]
+fn send_entries<S: Serializer>(object: &Object, out: &mut S, depth: usize) -> Result<(), S::Error> {
+    out.begin_map(Some(object.len()))?;
+    for (key, value) in object.iter() {
+        out.key(key)?;
+        send(value, out, depth)?;
+    }
+    out.end_map()
+}
+
+impl<'de> Deserialize<'de> for Exact {
+    fn deserialize<F: Format>(
+        alloc: Global,
+        from: &mut Deserializer<'de, '_, F>,
+    ) -> Result<Exact, F::Error> {
+        DeserializeOwned::deserialize_owned(alloc, from)
+    }
+}
+
+impl DeserializeOwned for Exact {
+    fn deserialize_owned<F: Format>(
+        alloc: Global,
+        from: &mut Deserializer<'_, '_, F>,
+    ) -> Result<Exact, F::Error> {
+        match from.peek()? {
+            Kind::Unsigned => Ok(Exact(Number::from(from.u64()?))),
+            Kind::Signed => Ok(Exact(Number::from(from.i64()?))),
+            Kind::Float => Ok(Exact(fetch_number(alloc, from)?)),
+            _ => Ok(Exact(fetch_float(from)?)),
+        }
+    }
+}
+
+/// By its text, which the format of a value has, or else by a float.
+fn fetch_number<F: Format>(
+    alloc: Global,
+    from: &mut Deserializer<'_, '_, F>,
+) -> Result<Number, F::Error> {
+    let mark = from.mark();
+    match from.byte_buf(alloc) {
+        Ok(bytes) => {
+            if let Some(number) = number_in(bytes.as_slice()) {
+                from.release(mark);
+                return Ok(number);
+            }
+        }
+        Err(error) => {
+            if from.is_fatal(&error) {
+                return Err(error);
+            }
+        }
+    }
+    from.rewind(mark);
+    from.release(mark);
+    fetch_float(from)
+}
+
+/// As `number_of`, of bytes.
+fn number_in(bytes: &[u8]) -> Option<Number> {
+    match std::str::from_utf8(bytes) {
+        Ok(text) => number_of(text),
+        Err(_) => None,
+    }
+}
+
+/// The number of a float's shortest text.
+fn fetch_float<F: Format>(from: &mut Deserializer<'_, '_, F>) -> Result<Number, F::Error> {
+    let float = from.f64()?;
+    if !float.is_finite() {
+        return Ok(NAN);
+    }
+    let mut buffer = ryu::Buffer::new();
+    match number_of(buffer.format_finite(float)) {
+        Some(number) => Ok(number),
+        None => Err(from.invalid()),
+    }
+}
+
+impl<'de> Deserialize<'de> for Json {
+    fn deserialize<F: Format>(
+        alloc: Global,
+        from: &mut Deserializer<'de, '_, F>,
+    ) -> Result<Json, F::Error> {
+        Ok(Json(fetch(alloc, from, MAX_DEPTH)?))
+    }
+}
+
+impl DeserializeOwned for Json {
+    fn deserialize_owned<F: Format>(
+        alloc: Global,
+        from: &mut Deserializer<'_, '_, F>,
+    ) -> Result<Json, F::Error> {
+        Ok(Json(fetch(alloc, from, MAX_DEPTH)?))
+    }
+}
+
+/// A string as a value, inline if it is short.
+fn stored(text: String) -> JsonValue {
+    if text.len() <= MAX_LEN {
+        return JsonValue::Short(Short::from_slice(text.as_str()));
+    }
+    JsonValue::String(text)
+}
+
+/// Reads any value.
+#[cycle(fetch)]
+fn fetch<F: Format>(
+    alloc: Global,
+    from: &mut Deserializer<'_, '_, F>,
+    depth: usize,
+) -> Result<JsonValue, F::Error> {
+    match from.peek()? {
+        Kind::Unit => {
+            from.skip()?;
+            Ok(JsonValue::Null)
+        }
+        Kind::Bool => Ok(JsonValue::Boolean(from.bool()?)),
+        Kind::Unsigned => Ok(JsonValue::from(from.u64()?)),
+        Kind::Signed => Ok(JsonValue::from(from.i64()?)),
+        Kind::Float => Ok(JsonValue::Number(fetch_number(alloc, from)?)),
+        Kind::Str => Ok(stored(from.string(alloc)?)),
+        Kind::Seq if depth > 0 => Ok(JsonValue::Array(fetch_items(alloc, from, depth - 1)?)),
+        Kind::Map if depth > 0 => Ok(JsonValue::Object(fetch_entries(alloc, from, depth - 1)?)),
+        _ => Err(from.invalid()),
+    }
+}
+
+/// Reads the elements of an array. The loop has a bound, so that it ends whatever the format says.
+#[cycle(fetch)]
+fn fetch_items<F: Format>(
+    alloc: Global,
+    from: &mut Deserializer<'_, '_, F>,
+    depth: usize,
+) -> Result<Vec<JsonValue>, F::Error> {
+    from.begin_seq()?;
+    let mut items = Vec::new(alloc);
+    for _ in 0..u64::MAX {
+        if !from.next_item()? {
+            break;
+        }
+        if items.push(fetch(alloc, from, depth)?).is_err() {
+            return Err(from.no_memory());
+        }
+    }
+    Ok(items)
+}
+
+/// Reads the entries of an object, as `fetch_items`.
+#[cycle(fetch)]
+fn fetch_entries<F: Format>(
+    alloc: Global,
+    from: &mut Deserializer<'_, '_, F>,
+    depth: usize,
+) -> Result<Object, F::Error> {
+    from.begin_map()?;
+    let mut keys = Vec::new(alloc);
+    let mut values = Vec::new(alloc);
+    for _ in 0..u64::MAX {
+        if !from.next_entry()? {
+            break;
+        }
+        let text = from.string(alloc)?;
+        let Ok(key) = Key::new(alloc, text.as_str()) else {
+            return Err(from.no_memory());
+        };
+        let value = fetch(alloc, from, depth)?;
+        if keys.push(key).is_err() || values.push(value).is_err() {
+            return Err(from.no_memory());
+        }
+    }
+    Object::from_entries(alloc, keys, values).map_err(|_| from.no_memory())
+}

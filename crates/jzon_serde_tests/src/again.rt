@@ -1,0 +1,130 @@
+//! Reads a text as a type, and writes it in each way.
+
+use crate::types::*;
+use jzon::JsonValue;
+use jzon_pointer::error::Error;
+use jzon_serde::{Exact, Json, from_str, from_value, to_string, to_string_pretty, to_value};
+use serde::{DeserializeOwned, Serialize};
+use std::alloc::Global;
+use std::collections::{BTreeMap, BTreeSet};
+use std::test::Fail;
+
+/// What a text is written as again, through its type, or the error's message.
+pub fn again(alloc: Global, kind: &str, text: &str) -> Result<String, Fail> {
+    let read = match integer(alloc, kind, text) {
+        Some(read) => Some(read),
+        None => match other(alloc, kind, text) {
+            Some(read) => Some(read),
+            None => match structure(alloc, kind, text) {
+                Some(read) => Some(read),
+                None => choice(alloc, kind, text),
+            },
+        },
+    };
+    match read {
+        Some(Ok(text)) => Ok(text),
+        Some(Err(error)) => Ok(format!(in alloc; "{error}")?),
+        None => Err(Fail::from("no such type")),
+    }
+}
+
+type Read = Result<String, Error>;
+
+fn integer(alloc: Global, kind: &str, text: &str) -> Option<Read> {
+    match kind {
+        "u8" => Some(written::<u8>(alloc, text)),
+        "u16" => Some(written::<u16>(alloc, text)),
+        "u32" => Some(written::<u32>(alloc, text)),
+        "u64" => Some(written::<u64>(alloc, text)),
+        "u128" => Some(written::<u128>(alloc, text)),
+        "i8" => Some(written::<i8>(alloc, text)),
+        "i16" => Some(written::<i16>(alloc, text)),
+        "i32" => Some(written::<i32>(alloc, text)),
+        "i64" => Some(written::<i64>(alloc, text)),
+        "i128" => Some(written::<i128>(alloc, text)),
+        _ => None,
+    }
+}
+
+fn other(alloc: Global, kind: &str, text: &str) -> Option<Read> {
+    match kind {
+        "f32" => Some(written::<f32>(alloc, text)),
+        "f64" => Some(written::<f64>(alloc, text)),
+        "bool" => Some(written::<bool>(alloc, text)),
+        "char" => Some(written::<char>(alloc, text)),
+        "String" => Some(written::<String>(alloc, text)),
+        "()" => Some(written::<()>(alloc, text)),
+        "Option" => Some(written::<Option<u8>>(alloc, text)),
+        "Floats" => Some(written::<Vec<Option<f64>>>(alloc, text)),
+        "Vec" => Some(written::<Vec<Vec<u8>>>(alloc, text)),
+        "pair" => Some(written::<(u8, String)>(alloc, text)),
+        "array" => Some(written::<[u8; 3]>(alloc, text)),
+        "set" => Some(written::<BTreeSet<u8>>(alloc, text)),
+        "map" => Some(written::<BTreeMap<u8, u8>>(alloc, text)),
+        "Exact" => Some(written::<Exact>(alloc, text)),
+        "Json" => Some(written::<Json>(alloc, text)),
+        _ => None,
+    }
+}
+
+fn structure(alloc: Global, kind: &str, text: &str) -> Option<Read> {
+    match kind {
+        "Nothing" => Some(written::<Nothing>(alloc, text)),
+        "Meters" => Some(written::<Meters>(alloc, text)),
+        "Point" => Some(written::<Point>(alloc, text)),
+        "Rgb" => Some(written::<Rgb>(alloc, text)),
+        "Person" => Some(written::<Person>(alloc, text)),
+        "Camel" => Some(written::<Camel>(alloc, text)),
+        "Kebab" => Some(written::<Kebab>(alloc, text)),
+        "Screaming" => Some(written::<Screaming>(alloc, text)),
+        "Renamed" => Some(written::<Renamed>(alloc, text)),
+        "Mixed" => Some(written::<Mixed>(alloc, text)),
+        "Defaults" => Some(written::<Defaults>(alloc, text)),
+        "Skips" => Some(written::<Skips>(alloc, text)),
+        "Flat" => Some(written::<Flat>(alloc, text)),
+        "Maps" => Some(written::<Maps>(alloc, text)),
+        "Money" => Some(written::<Money>(alloc, text)),
+        "Extra" => Some(written::<Extra>(alloc, text)),
+        _ => None,
+    }
+}
+
+fn choice(alloc: Global, kind: &str, text: &str) -> Option<Read> {
+    match kind {
+        "Level" => Some(written::<Level>(alloc, text)),
+        "Shape" => Some(written::<Shape>(alloc, text)),
+        "Check" => Some(written::<Check>(alloc, text)),
+        "Packet" => Some(written::<Packet>(alloc, text)),
+        "Either" => Some(written::<Either>(alloc, text)),
+        "Kind" => Some(written::<Kind>(alloc, text)),
+        "Folder" => Some(written::<Folder>(alloc, text)),
+        "Wrapped" => Some(written::<Wrapped>(alloc, text)),
+        "Page" => Some(written::<Page<Point>>(alloc, text)),
+        "Even" => Some(written::<Even>(alloc, text)),
+        "Deep" => Some(written::<Deep>(alloc, text)),
+        "Config" => Some(written::<Config>(alloc, text)),
+        _ => None,
+    }
+}
+
+/// The compact text. The value, its text on lines, and what is read of it must be the same.
+pub fn written<T: DeserializeOwned + Serialize>(alloc: Global, text: &str) -> Read {
+    let read: T = from_str(alloc, text)?;
+    let text = to_string(alloc, &read)?;
+    let value = to_value(alloc, &read)?;
+    let pretty = to_string_pretty(alloc, &read)?;
+    let back: T = from_value(alloc, &value)?;
+    let back = to_string(alloc, &back)?;
+    if is_text(alloc, &value, text.as_str(), pretty.as_str()) && back.as_str() == text.as_str() {
+        return Ok(text);
+    }
+    Ok(String::from_str(alloc, "not the same")?)
+}
+
+/// Whether these are the value's compact text and that on lines.
+fn is_text(alloc: Global, value: &JsonValue, compact: &str, lines: &str) -> bool {
+    match (value.dump(alloc), value.pretty(alloc, 2)) {
+        (Ok(dump), Ok(pretty)) => dump.as_str() == compact && pretty.as_str() == lines,
+        _ => false,
+    }
+}

@@ -1,0 +1,410 @@
+//! Texts, the types that they are read as, and what is written again or what the error says.
+
+use crate::again::again;
+use crate::common::{Tested, Tester, expect_eq};
+use jzon_test_support::rows;
+
+/// A type, a text, and what is written again.
+type Row = (&'static str, &'static str, &'static str);
+
+/// Integers, by their value, and what is out of their range.
+const INTEGERS: &[Row] = rows! {
+    ("u8", "0", "0")
+    ("u8", "255", "255")
+    ("u8", " 7 ", "7")
+    ("u8", "-0", "0")
+    ("u8", "1e2", "100")
+    ("u8", "100.0", "100")
+    ("u8", "2.50e2", "250")
+    ("u8", "0e9999", "0")
+    ("u8", "256", "expected an integer in the range of its type, found 256 at (1:1)")
+    ("u8", "-1", "expected an integer of at least 0, found -1 at (1:1)")
+    ("u8", "1.5", "expected an integer of at least 0, found 1.5 at (1:1)")
+    ("u8", "1e9999", "expected an integer of at most 64 bits, found 1e9999 at (1:1)")
+    ("u8", "\"1\"", "expected an integer of at least 0, found \"1\" at (1:1)")
+    ("u8", "null", "expected an integer of at least 0, found null at (1:1)")
+    ("u8", "[1]", "expected an integer of at least 0, found an array of 1 element at (1:1)")
+    ("u16", "65535", "65535")
+    ("u16", "65536", "expected an integer in the range of its type, found 65536 at (1:1)")
+    ("u32", "4294967295", "4294967295")
+    ("u32", "4294967296", "expected an integer in the range of its type, found 4294967296 at (1:1)")
+    ("u64", "18446744073709551615", "18446744073709551615")
+    ("u64", "1e19", "10000000000000000000")
+    ("u64", "2e19", "expected an integer of at most 64 bits, found 20000000000000000000 at (1:1)")
+    ("u64", "18446744073709551616", "Number is not exact at (1:20)")
+    (
+        "u64",
+        "1844674407370955161.0",
+        "expected an integer, found 1844674407370955161.0, of which digits may be cut at (1:1)",
+    )
+    ("u64", "100.00000000000000000001", "Number is not exact at (1:24)")
+    ("u128", "18446744073709551615", "18446744073709551615")
+    ("u128", "1e38", "expected an integer of at most 64 bits, found 1e38 at (1:1)")
+    ("u128", "1.50e1", "15")
+    ("u128", "-1", "expected an integer of at least 0, found -1 at (1:1)")
+    ("i8", "127", "127")
+    ("i8", "-128", "-128")
+    ("i8", "-1.28e2", "-128")
+    ("i8", "128", "expected an integer in the range of its type, found 128 at (1:1)")
+    ("i8", "-129", "expected an integer in the range of its type, found -129 at (1:1)")
+    ("i8", "0.5", "expected an integer, found 0.5 at (1:1)")
+    ("i16", "-32768", "-32768")
+    ("i16", "32768", "expected an integer in the range of its type, found 32768 at (1:1)")
+    ("i32", "-2147483648", "-2147483648")
+    ("i32", "2147483648", "expected an integer in the range of its type, found 2147483648 at (1:1)")
+    ("i64", "-9223372036854775808", "-9223372036854775808")
+    ("i64", "9223372036854775807", "9223372036854775807")
+    (
+        "i64",
+        "9223372036854775808",
+        "expected an integer in the range of its type, found 9223372036854775808 at (1:1)",
+    )
+    ("i64", "true", "expected an integer, found true at (1:1)")
+    ("i128", "-18446744073709551615", "-18446744073709551615")
+    ("i128", "-1e30", "expected an integer of at most 64 bits, found -1e30 at (1:1)")
+    ("i128", "-0.0", "0")
+};
+
+/// Floats, decimals, and other values without a name.
+const SCALARS: &[Row] = rows! {
+    ("f64", "0.1", "0.1")
+    ("f64", "1", "1.0")
+    ("f64", "-0.0", "-0")
+    ("f64", "1e22", "1e22")
+    ("f64", "123456789012345680", "123456789012345680")
+    ("f64", "5e-324", "5e-324")
+    ("f64", "1.7976931348623157e308", "1.7976931348623157e308")
+    ("f64", "0.30000000000000004", "0.30000000000000004")
+    ("f64", "1e-400", "0")
+    ("f64", "1e400", "expected a number in a float's range, found 1e400 at (1:1)")
+    ("f64", "\"1\"", "expected a number, found \"1\" at (1:1)")
+    ("f64", "null", "expected a number, found null at (1:1)")
+    ("f32", "0.1", "0.1")
+    ("f32", "16777217", "16777216.0")
+    ("f32", "3.4028235e38", "3.4028235e38")
+    ("f32", "1e39", "expected a number in a float's range, found 1e39 at (1:1)")
+    ("Floats", "[null, 1.5]", "[null,1.5]")
+    ("Exact", "19.90", "19.90")
+    ("Exact", "1234567890.123456789", "1234567890.123456789")
+    ("Exact", "1e400", "1e400")
+    ("Exact", "-0", "-0")
+    ("Exact", "-5", "-5")
+    ("Exact", "0.00", "0")
+    ("Exact", "18446744073709551615", "18446744073709551615")
+    ("Exact", "-18446744073709551615", "-18446744073709551615")
+    ("Exact", "\"1\"", "expected a number, found \"1\" at (1:1)")
+    ("bool", "true", "true")
+    ("bool", "false", "false")
+    ("bool", "0", "expected true or false, found 0 at (1:1)")
+    ("bool", "\"true\"", "expected true or false, found \"true\" at (1:1)")
+    ("char", "\"a\"", "\"a\"")
+    ("char", "\"\\u00e9\"", "\"é\"")
+    ("char", "\"\\ud834\\udd1e\"", "\"\u{1d11e}\"")
+    ("char", "\"\"", "expected one character, found \"\" at (1:1)")
+    ("char", "\"ab\"", "expected one character, found \"ab\" at (1:1)")
+    ("char", "97", "expected a string, found 97 at (1:1)")
+    ("String", "\"\"", "\"\"")
+    ("String", "\"a\\\"\\\\\\n\"", "\"a\\\"\\\\\\n\"")
+    (
+        "String",
+        "\"more than thirty bytes, so that it isn't inline\"",
+        "\"more than thirty bytes, so that it isn't inline\"",
+    )
+    ("String", "5", "expected a string, found 5 at (1:1)")
+    ("String", "null", "expected a string, found null at (1:1)")
+    ("String", "{}", "expected a string, found an empty object at (1:1)")
+    ("()", "null", "null")
+    ("()", "0", "expected a value of its type, found 0 at (1:1)")
+    ("()", "[]", "expected a value of its type, found an empty array at (1:1)")
+    ("Option", "null", "null")
+    ("Option", "5", "5")
+    ("Option", "\"5\"", "expected an integer of at least 0, found \"5\" at (1:1)")
+    ("Option", "300", "expected an integer in the range of its type, found 300 at (1:1)")
+    ("Json", "null", "null")
+    ("Json", "{\"b\": [1, 2.50, {\"a\": \"x\"}], \"a\": false}", "{\"b\":[1,2.50,{\"a\":\"x\"}],\"a\":false}")
+    ("Json", "[1e400, -0, 0.1e-3, 12345678901234567890]", "[1e400,-0,0.0001,12345678901234567890]")
+    ("Json", "[]", "[]")
+    ("Json", "{}", "{}")
+    ("Json", "[[], {}, [{}]]", "[[],{},[{}]]")
+    ("Even", "4", "4")
+    ("Even", "5", "an odd number at (1:1)")
+    ("Even", "256", "expected an integer in the range of its type, found 256 at (1:1)")
+};
+
+/// Arrays, tuples, sets and maps.
+const CONTAINERS: &[Row] = rows! {
+    ("Vec", "[]", "[]")
+    ("Vec", "[[], [1], [2, 3]]", "[[],[1],[2,3]]")
+    ("Vec", "{}", "expected an array, found an empty object at (1:1)")
+    ("Vec", "[[1], 2]", "/1: expected an array, found 2 at (1:7)")
+    ("Vec", "[[1],\n [2, \"3\"]]", "/1/1: expected an integer of at least 0, found \"3\" at (2:6)")
+    ("Vec", "[[1, 256]]", "/0/1: expected an integer in the range of its type, found 256 at (1:6)")
+    ("pair", "[1, \"a\"]", "[1,\"a\"]")
+    ("pair", "[1]", "wrong number of elements at (1:1)")
+    ("pair", "[]", "wrong number of elements at (1:1)")
+    ("pair", "[1, \"a\", 2]", "/2: wrong number of elements at (1:10)")
+    ("pair", "[\"a\", 1]", "/0: expected an integer of at least 0, found \"a\" at (1:2)")
+    ("pair", "{\"0\": 1, \"1\": \"a\"}", "expected an array, found an object of 2 entries at (1:1)")
+    ("array", "[1, 2, 3]", "[1,2,3]")
+    ("array", "[1, 2]", "wrong number of elements at (1:1)")
+    ("array", "[1, 2, 3, 4]", "wrong number of elements at (1:1)")
+    ("set", "[3, 1, 3, 2]", "[1,2,3]")
+    ("set", "[1, -1]", "/1: expected an integer of at least 0, found -1 at (1:5)")
+    ("map", "{}", "{}")
+    ("map", "{\"2\": 20, \"1\": 10}", "{\"1\":10,\"2\":20}")
+    ("map", "{\"0\": 5}", "{\"0\":5}")
+    ("map", "{\"01\": 5}", "/01: expected an integer of at least 0, found \"01\" at (1:2)")
+    ("map", "{\"+1\": 5}", "/+1: expected an integer of at least 0, found \"+1\" at (1:2)")
+    ("map", "{\"1.0\": 5}", "/1.0: expected an integer of at least 0, found \"1.0\" at (1:2)")
+    ("map", "{\"256\": 5}", "/256: expected a key of its type, found \"256\" at (1:2)")
+    ("map", "{\"1\": 256}", "/1: expected an integer in the range of its type, found 256 at (1:7)")
+    ("map", "[]", "expected an object, found an empty array at (1:1)")
+    ("map", "{\"1\": 1, \"1\": 2}", "Duplicate key at (1:10)")
+    ("Maps", "{}", "{\"names\":{},\"ids\":{},\"levels\":{},\"flags\":{}}")
+    (
+        "Maps",
+        "{\"names\": {\"b\": 1, \"a\": 2}, \"ids\": {\"-5\": true}, \"levels\": {\"warn\": 3}, \"flags\": {\"false\": 4}}",
+        "{\"names\":{\"a\":2,\"b\":1},\"ids\":{\"-5\":true},\"levels\":{\"warn\":3},\"flags\":{\"false\":4}}",
+    )
+    ("Maps", "{\"names\": {\"a/b~c\": \"1\"}}", "/names/a~1b~0c: expected an integer of at least 0, found \"1\" at (1:21)")
+    ("Maps", "{\"ids\": {\"x\": true}}", "/ids/x: expected an integer, found \"x\" at (1:10)")
+    ("Maps", "{\"ids\": {\"-0\": true}}", "/ids/-0: expected an integer, found \"-0\" at (1:10)")
+    (
+        "Maps",
+        "{\"ids\": {\"2147483648\": true}}",
+        "/ids/2147483648: expected a key of its type, found \"2147483648\" at (1:10)",
+    )
+    (
+        "Maps",
+        "{\"levels\": {\"loud\": 1}}",
+        "/levels/loud: expected one of debug, info, warn at (1:13)",
+    )
+    ("Maps", "{\"flags\": {\"yes\": 1}}", "/flags/yes: expected true or false, found \"yes\" at (1:12)")
+    ("Wrapped", "[1, 2]", "[1,2]")
+    ("Wrapped", "{\"inner\": [1]}", "expected an array, found an object of 1 entry at (1:1)")
+    ("Page", "{\"items\": [[1, 2], [3, 4]], \"next\": 2}", "{\"items\":[[1,2],[3,4]],\"next\":2}")
+    ("Page", "{\"items\": []}", "{\"items\":[],\"next\":null}")
+    ("Page", "{\"items\": [[1]]}", "/items/0: wrong number of elements at (1:12)")
+};
+
+/// Structs, with serde's attributes.
+const STRUCTS: &[Row] = rows! {
+    ("Nothing", "null", "null")
+    ("Nothing", "{}", "expected a value of its type, found an empty object at (1:1)")
+    ("Meters", "1.5", "1.5")
+    ("Meters", "[1.5]", "expected a number, found an array of 1 element at (1:1)")
+    ("Point", "[1, -2]", "[1,-2]")
+    ("Point", "[1]", "wrong number of elements at (1:1)")
+    ("Rgb", "{\"r\": 1, \"g\": 2, \"b\": 3}", "{\"r\":1,\"g\":2,\"b\":3}")
+    ("Rgb", "{\"b\": 3, \"g\": 2, \"r\": 1}", "{\"r\":1,\"g\":2,\"b\":3}")
+    ("Rgb", "{\"r\": 1, \"g\": 2, \"b\": 3, \"a\": [{}]}", "{\"r\":1,\"g\":2,\"b\":3}")
+    ("Rgb", "[1, 2, 3]", "{\"r\":1,\"g\":2,\"b\":3}")
+    ("Rgb", "[1, 2]", "the field b is missing at (1:1)")
+    ("Rgb", "[1, 2, 3, 4]", "/3: wrong number of elements at (1:11)")
+    ("Rgb", "{\"r\": 1, \"b\": 3}", "/g: missing, expected a value at (1:1)")
+    ("Rgb", "{}", "/r: missing, expected a value at (1:1)")
+    ("Rgb", "\"red\"", "expected an object, found \"red\" at (1:1)")
+    ("Rgb", "{\"r\": 1, \"g\": 256, \"b\": 3}", "/g: expected an integer in the range of its type, found 256 at (1:15)")
+    ("Rgb", "{\"r\": 1, \"r\": 2, \"g\": 2, \"b\": 3}", "Duplicate key at (1:10)")
+    ("Person", "{\"name\": \"Ann\", \"age\": 5}", "{\"name\":\"Ann\",\"age\":5}")
+    ("Person", "{\"name\": \"Ann\", \"age\": null}", "{\"name\":\"Ann\",\"age\":null}")
+    ("Person", "{\"name\": \"Ann\"}", "{\"name\":\"Ann\",\"age\":null}")
+    ("Person", "{\"age\": 5}", "/name: missing, expected a value at (1:1)")
+    ("Person", "{\"name\": null}", "/name: expected a string, found null at (1:10)")
+    ("Person", "null", "expected an object, found null at (1:1)")
+    ("Camel", "{\"firstName\": \"a\", \"portNumber\": 80}", "{\"firstName\":\"a\",\"portNumber\":80}")
+    ("Camel", "{\"firstName\": \"a\"}", "/portNumber: missing, expected a value at (1:1)")
+    ("Camel", "{\"firstName\": \"a\", \"port_number\": 80}", "/port_number: unknown key at (1:20)")
+    ("Camel", "{\"firstName\": \"a\", \"portNumber\": 80, \"x\": 1}", "/x: unknown key at (1:38)")
+    ("Camel", "{\"a/b\": 1}", "/a~1b: unknown key at (1:2)")
+    ("Kebab", "{\"log-level\": \"info\"}", "{\"log-level\":\"info\"}")
+    ("Kebab", "{\"log_level\": \"info\"}", "/log-level: missing, expected a value at (1:1)")
+    ("Screaming", "{\"MAX_SIZE\": 5}", "{\"MAX_SIZE\":5}")
+    ("Screaming", "{}", "/MAX_SIZE: missing, expected a value at (1:1)")
+    ("Renamed", "{\"maxPrice\": 1, \"color\": \"red\"}", "{\"maxPrice\":1,\"color\":\"red\"}")
+    ("Renamed", "{\"maxPrice\": 1, \"colour\": \"red\"}", "{\"maxPrice\":1,\"color\":\"red\"}")
+    ("Renamed", "{\"maxPrice\": 1, \"colour\": \"red\", \"color\": \"x\"}", "/color: given twice at (1:34)")
+    ("Renamed", "{\"max_price\": 1}", "/maxPrice: missing, expected a value at (1:1)")
+    ("Mixed", "{\"ID\": 1, \"longName\": 2}", "{\"ID\":1,\"longName\":2}")
+    ("Mixed", "{\"ID\": 1}", "the field long_name is missing at (1:1)")
+    ("Mixed", "{\"longName\": 1}", "the field ID is missing at (1:1)")
+    ("Defaults", "{}", "{\"tags\":[],\"port\":80}")
+    ("Defaults", "{\"port\": 8080, \"tags\": [\"a\"]}", "{\"tags\":[\"a\"],\"port\":8080}")
+    ("Defaults", "{\"tags\": null}", "/tags: expected an array, found null at (1:10)")
+    ("Skips", "{\"kept\": 1, \"maybe\": 2}", "{\"kept\":1,\"maybe\":2}")
+    ("Skips", "{\"kept\": 1, \"never\": 5}", "{\"kept\":1}")
+    ("Flat", "{\"timeout\": 5, \"name\": \"a\"}", "{\"name\":\"a\",\"timeout\":5}")
+    ("Flat", "{\"name\": \"a\"}", "/timeout: missing, expected a value at (1:1)")
+    ("Flat", "{\"timeout\": 5}", "/name: missing, expected a value at (1:1)")
+    ("Flat", "{\"name\": \"a\", \"timeout\": -5}", "/timeout: expected an integer of at least 0, found -5 at (1:26)")
+    ("Money", "{\"price\": 19.90}", "{\"price\":19.90}")
+    ("Money", "{\"price\": \"19.90\"}", "/price: expected a number, found \"19.90\" at (1:11)")
+    ("Extra", "{\"kind\": \"k\", \"details\": {\"z\": [1.50], \"a\": null}}", "{\"kind\":\"k\",\"details\":{\"z\":[1.50],\"a\":null},\"more\":null}")
+    ("Extra", "{\"kind\": \"k\", \"details\": null, \"more\": [1]}", "{\"kind\":\"k\",\"details\":null,\"more\":[1]}")
+    ("Extra", "{\"kind\": \"k\"}", "/details: missing, expected a value at (1:1)")
+    ("Config", "{\"servers\": []}", "{\"servers\":[]}")
+    (
+        "Config",
+        "{\"servers\": [\n  {\"firstName\": \"a\", \"portNumber\": 1},\n  {\"firstName\": \"b\", \"portNumber\": 65536}\n]}",
+        "/servers/1/portNumber: expected an integer in the range of its type, found 65536 at (3:36)",
+    )
+    (
+        "Config",
+        "{\"servers\": [\n  {\"firstName\": \"a\", \"portNumber\": 1},\n  {\"firstName\": \"b\", \"prot\": 1}\n]}",
+        "/servers/1/prot: unknown key at (3:22)",
+    )
+    (
+        "Config",
+        "{\"servers\": [\n  {\"firstName\": \"a\"}\n]}",
+        "/servers/0/portNumber: missing, expected a value at (2:3)",
+    )
+};
+
+/// Enums, by each of serde's representations.
+const ENUMS: &[Row] = rows! {
+    ("Level", "\"debug\"", "\"debug\"")
+    ("Level", "\"warn\"", "\"warn\"")
+    ("Level", "\"Warn\"", "expected one of debug, info, warn at (1:1)")
+    ("Level", "\"\"", "expected one of debug, info, warn at (1:1)")
+    ("Level", "{\"info\": null}", "\"info\"")
+    ("Level", "{\"info\": 1}", "/info: expected a value of its type, found 1 at (1:10)")
+    ("Level", "{}", "expected a value of its type, found an empty object at (1:1)")
+    ("Level", "5", "expected an object, found 5 at (1:1)")
+    ("Shape", "\"Dot\"", "\"Dot\"")
+    ("Shape", "{\"Circle\": 1.25}", "{\"Circle\":1.25}")
+    ("Shape", "{\"Circle\": 2}", "{\"Circle\":2.0}")
+    ("Shape", "{\"Line\": [1, -2]}", "{\"Line\":[1,-2]}")
+    ("Shape", "{\"Box\": {\"h\": 1, \"w\": 2}}", "{\"Box\":{\"w\":2,\"h\":1}}")
+    ("Shape", "{\"Line\": [1]}", "/Line: wrong number of elements at (1:10)")
+    ("Shape", "{\"Line\": [1, 2, 3]}", "/Line/2: wrong number of elements at (1:17)")
+    ("Shape", "{\"Circle\": \"x\"}", "/Circle: expected a number, found \"x\" at (1:12)")
+    ("Shape", "{\"Box\": {\"w\": 2}}", "/Box/h: missing, expected a value at (1:9)")
+    ("Shape", "\"Line\"", "expected a value of its type, found \"Line\" at (1:1)")
+    (
+        "Shape",
+        "{\"Boxes\": {}}",
+        "/Boxes: expected one of Dot, Circle, Line, Box at (1:2)",
+    )
+    (
+        "Shape",
+        "\"Square\"",
+        "expected one of Dot, Circle, Line, Box at (1:1)",
+    )
+    ("Check", "{\"type\": \"connect\"}", "{\"type\":\"connect\"}")
+    (
+        "Check",
+        "{\"path\": \"/up\", \"type\": \"get_path\", \"status\": 200}",
+        "{\"type\":\"get_path\",\"path\":\"/up\",\"status\":200}",
+    )
+    ("Check", "{\"type\": \"fly\"}", "/type: expected one of connect, get_path at (1:10)")
+    ("Check", "{\"kind\": \"connect\"}", "/type: missing, expected a value at (1:1)")
+    ("Check", "{\"type\": 5}", "/type: expected a string, found 5 at (1:10)")
+    ("Check", "{\"type\": \"get_path\", \"path\": \"x\"}", "/status: missing, expected a value at (1:1)")
+    ("Check", "{\"type\": \"get_path\", \"path\": 5}", "/path: expected a string, found 5 at (1:30)")
+    ("Packet", "{\"t\": \"A\", \"c\": 5}", "{\"t\":\"A\",\"c\":5}")
+    ("Packet", "{\"c\": 5, \"t\": \"A\"}", "{\"t\":\"A\",\"c\":5}")
+    ("Packet", "{\"t\": \"B\", \"c\": {\"x\": true}}", "{\"t\":\"B\",\"c\":{\"x\":true}}")
+    ("Packet", "{\"t\": \"C\"}", "{\"t\":\"C\"}")
+    ("Packet", "{\"t\": \"D\"}", "/t: expected one of A, B, C at (1:7)")
+    ("Packet", "{\"c\": 500, \"t\": \"A\"}", "/c: expected an integer in the range of its type, found 500 at (1:7)")
+    ("Packet", "{\"c\": 5}", "/t: missing, expected a value at (1:1)")
+    ("Packet", "{\"t\": \"A\"}", "/c: missing, expected a value at (1:1)")
+    ("Either", "5", "5")
+    ("Either", "-5", "-5")
+    ("Either", "5.0", "5")
+    ("Either", "\"x\"", "\"x\"")
+    ("Either", "[]", "[]")
+    ("Either", "[1, 2]", "[1,2]")
+    ("Either", "{\"name\": \"n\"}", "{\"name\":\"n\"}")
+    ("Either", "true", "expected a value of its type, found true at (1:1)")
+    ("Either", "[1, 256]", "expected a value of its type, found an array of 2 elements at (1:1)")
+    ("Either", "{\"name\": 5}", "expected a value of its type, found an object of 1 entry at (1:1)")
+    ("Either", "null", "expected a value of its type, found null at (1:1)")
+    ("Kind", "\"Known\"", "\"Known\"")
+    ("Kind", "\"New\"", "\"Other\"")
+    ("Folder", "{\"size\": 1, \"folders\": []}", "{\"size\":1,\"folders\":[]}")
+    (
+        "Folder",
+        "{\"size\": 1, \"folders\": [{\"size\": 2, \"folders\": [{\"size\": 3, \"folders\": []}]}]}",
+        "{\"size\":1,\"folders\":[{\"size\":2,\"folders\":[{\"size\":3,\"folders\":[]}]}]}",
+    )
+    (
+        "Folder",
+        "{\"size\": 1, \"folders\": [{\"size\": 2, \"folders\": [{\"size\": \"3\"}]}]}",
+        "/folders/0/folders/0/size: expected an integer of at least 0, found \"3\" at (1:58)",
+    )
+    (
+        "Deep",
+        "{\"after\": 7, \"list\": [[1, 2], {\"name\": \"n\"}, \"x\", 5], \"status\": 3, \"path\": \"/p\", \"type\": \"get_path\"}",
+        "{\"list\":[[1,2],{\"name\":\"n\"},\"x\",5],\"type\":\"get_path\",\"path\":\"/p\",\"status\":3,\"after\":7}",
+    )
+    ("Deep", "{\"type\": \"connect\", \"list\": [], \"after\": 1}", "{\"list\":[],\"type\":\"connect\",\"after\":1}")
+    (
+        "Deep",
+        "{\"list\": [[1], {\"name\": 5}], \"after\": 7, \"type\": \"connect\"}",
+        "/list/1: expected a value of its type, found an object of 1 entry at (1:16)",
+    )
+    ("Deep", "{\"list\": [[]], \"after\": 7, \"type\": \"get_path\", \"path\": []}", "/path: expected a string, found an empty array at (1:56)")
+    ("Deep", "{\"list\": [], \"type\": \"connect\"}", "/after: missing, expected a value at (1:1)")
+};
+
+/// Texts that are no JSON, or that a strict and exact reading rejects.
+const REJECTED: &[Row] = rows! {
+    ("u8", "", "Unexpected end of JSON at (1:1)")
+    ("u8", "01", "Unexpected character: 1 at (1:2)")
+    ("u8", "+1", "Unexpected character: + at (1:1)")
+    ("u8", "1 2", "Unexpected character: 2 at (1:3)")
+    ("u8", "1\u{202e}", "Unexpected character: \\u202e at (1:2)")
+    ("Rgb", "{\"r\": 1,", "Unexpected end of JSON at (1:9)")
+    ("Rgb", "{\"r\": 1,}", "Unexpected character: } at (1:9)")
+    ("Rgb", "{r: 1}", "Unexpected character: r at (1:2)")
+    ("Vec", "[[1],]", "Unexpected character: ] at (1:6)")
+    ("Vec", "[[1] [2]]", "Unexpected character: [ at (1:6)")
+    ("String", "\"a", "Unexpected end of JSON at (1:3)")
+    ("String", "'a'", "Unexpected character: ' at (1:1)")
+    ("f64", "NaN", "Unexpected character: N at (1:1)")
+    ("f64", "Infinity", "Unexpected character: I at (1:1)")
+    ("f64", "1.", "Unexpected end of JSON at (1:3)")
+    ("bool", "True", "Unexpected character: T at (1:1)")
+    ("Exact", "12345678901234567890123", "Number is not exact at (1:21)")
+    ("Json", "{\"a\": 1, \"b\": {\"a\": 2, \"a\": 3}}", "Duplicate key at (1:24)")
+};
+
+/// Reads each text as its type, and writes it again.
+fn expect_again(rt: &impl Tester, rows: &[Row]) -> Tested {
+    for (kind, text, want) in rows {
+        let found = again(rt.alloc(), *kind, *text)?;
+        expect_eq(rt, *text, found.as_str(), *want);
+    }
+    Ok(())
+}
+
+#[test]
+fn reads_and_writes_integers(rt: HostRuntime) -> Tested {
+    expect_again(&rt, INTEGERS)
+}
+
+#[test]
+fn reads_and_writes_scalars(rt: HostRuntime) -> Tested {
+    expect_again(&rt, SCALARS)
+}
+
+#[test]
+fn reads_and_writes_containers(rt: HostRuntime) -> Tested {
+    expect_again(&rt, CONTAINERS)
+}
+
+#[test]
+fn reads_and_writes_structs(rt: HostRuntime) -> Tested {
+    expect_again(&rt, STRUCTS)
+}
+
+#[test]
+fn reads_and_writes_enums(rt: HostRuntime) -> Tested {
+    expect_again(&rt, ENUMS)
+}
+
+#[test]
+fn rejects_texts(rt: HostRuntime) -> Tested {
+    expect_again(&rt, REJECTED)
+}
