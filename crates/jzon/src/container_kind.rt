@@ -9,7 +9,6 @@ use jzon_tree::object::Object;
 use jzon_tree::value::JsonValue;
 use std::alloc::Global;
 
-/// A kind of container.
 #[derive(Clone, Copy)]
 pub(crate) enum ContainerKind {
     Array,

@@ -1,5 +1,6 @@
 //! A text and the offset up to which it is read, with the moves past brackets, commas and colons
-//! and the whitespace after them.
+//! and the whitespace after them. Clauses compare them with the moves of an automaton, for any open
+//! containers `fs` (docs/ARCHITECTURE.md, "How the parser is proved").
 
 ghost use Rattle.std.specs.Prelude.{◌≡◌, ◌≢◌, ◌<◌, ◌≤◌, ◌+◌, length, chars, drop, false, slice_index, Err, IfOk, None, if◌then◌else◌};
 ghost use Rattle.std.specs.Str.{IsCharBoundary, IsUtf8};

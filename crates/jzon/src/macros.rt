@@ -116,6 +116,8 @@ macro_rules! source {
     };
 }
 
+/// Pushes the elements. One token tree, such as `null` or `[..]`, is taken by the second rule, and
+/// any longer expression by the third.
 #[doc(hidden)]
 #[macro_export]
 macro_rules! push_items {

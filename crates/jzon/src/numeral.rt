@@ -1,5 +1,6 @@
 //! Reads numbers (RFC 8259, section 6; docs/RULES.md, "Numbers"). Clauses speak of an automaton
-//! (docs/ARCHITECTURE.md, "How the parser is proved").
+//! (docs/ARCHITECTURE.md, "How the parser is proved"), for any reading `r` and any open containers
+//! `fs`.
 
 ghost use Rattle.std.specs.Prelude.{◌≡◌, ℕ, pos, List, [], ◌∷◌, ◌<◌, ◌≤◌, ◌+◌, ◌-◌, ◌%◌, ◌^◌, ◌++◌, length, drop, chars, not, Bool, true, false, ◌==◌, ◌↔◌, IsTrue, IfOk, IfErr, OkIff, slice_index, if◌then◌else◌};
 ghost use Rattle.std.specs.Char.{is_ascii_digit};
@@ -155,7 +156,8 @@ struct Spelling<'a> {
     ghost written_up: { written ≡ digits_number exponent.now % 2 ^ 64 },
 }
 
-/// The digits of the number whose first digit is at `start`.
+/// The digits of the number whose first digit is at `start`. The last three clauses say where a
+/// digit is too many, is lost, or takes the number out of range.
 #[inline(always)]
 fn spelling_at(source: &str, start: usize) -> Spelling<'_>
     requires within { start < length source.now }

@@ -47,7 +47,8 @@ impl Place {
     }
 }
 
-/// The line after these characters. It counts the bytes of newlines: no other character has one.
+/// The line after these characters. It counts the bytes of newlines: no other character has one,
+/// and no other byte is below 1 after `^ b'\n'`.
 fn line_after(prefix: &str) -> usize
     ensures { result ≡ line (chars prefix.now) }
 {
@@ -73,7 +74,7 @@ fn characters(text: &str) -> usize
     count_below(text.as_bytes(), 127, 192)
 }
 
-/// How many bytes `^ turn` are below a bound.
+/// How many bytes are below `bound` after `^ turn`.
 fn count_below(bytes: &[u8], turn: u8, bound: u8) -> usize
     ensures count { result ≡ count_by (is_below turn bound) bytes.now }
     ensures within { result ≤ length bytes.now }

@@ -1,5 +1,4 @@
-//! Reads primitives: numbers, strings and literals (RFC 8259, section 3). The function that makes
-//! one puts it into its target, so that no value is moved from call to call.
+//! Reads primitives: numbers, strings and literals (RFC 8259, section 3), into a `Target`.
 
 ghost use Rattle.std.specs.Prelude.{◌≡◌, ◌≢◌, ◌⊎◌, ◌<◌, ◌+◌, length, IsTrue, IfOk, Err, MatchResult, codes, slice_index, None, true, false, IsAscii, ⊤};
 ghost use Rattle.std.specs.Char.{is_ascii_digit};
@@ -64,8 +63,7 @@ pub(crate) fn put_primitive<T: Target>(
     }
 }
 
-/// Puts the number whose first digit is at `start`, after a minus if it is `negative`. Returns the
-/// offset after it.
+/// Puts the number that `read_number` reads. Returns the offset after it.
 #[inline(always)]
 fn put_magnitude<T: Target>(
     exact: bool,

@@ -1,6 +1,7 @@
 //! The open containers of a text. All their keys are on one stack, and all their values on another;
 //! each container has a part of both, and is made of it at its end. To clauses they are a list of
-//! containers (`specs/Private/OpenContainers.antt`).
+//! containers (`specs/Private/OpenContainers.antt`). By `HasAllValues` each key of an object has
+//! its value, and by `AwaitsValue` only the last one has none.
 
 ghost use Rattle.std.specs.Prelude.{◌≡◌, ◌≢◌, ◌&&◌, if◌then◌else◌, slice_index, IfSome, None, Some, ◌≤◌, ◌<◌, [], ◌∷◌, ◌++◌, length, take, drop, vec_len, vec_capacity, IfOk, OnOk, OnErr, MatchOption, true, ◌+◌};
 ghost use Rattle.std.specs.List.{zip};
@@ -48,7 +49,6 @@ struct Frame {
     first_value: usize,
 }
 
-/// Open containers.
 #[derive(Drop)]
 pub(crate) struct Stacks {
     alloc: Global,

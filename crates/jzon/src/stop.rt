@@ -108,7 +108,7 @@ pub(crate) fn fault_at(source: &str, index: usize) -> Stop
     Stop::At(index)
 }
 
-/// The stop for one open container too many. Not inlined, as it is rare.
+/// The stop for one open container too many.
 #[cold]
 #[inline(never)]
 pub(crate) fn too_deep(index: usize) -> Stop

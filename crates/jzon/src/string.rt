@@ -1,5 +1,6 @@
 //! Reads strings (RFC 8259, section 7; docs/RULES.md, "Strings"). A string without escapes isn't
-//! copied; one with escapes is unescaped into a buffer.
+//! copied; one with escapes is unescaped into a buffer. In clauses a string's `Role` is that of a
+//! key or a value, and `between` is the automaton's state between two characters.
 
 ghost use Rattle.std.specs.Prelude.{◌≡◌, ◌<◌, ◌≤◌, ◌+◌, ◌-◌, ◌++◌, ◌&&◌, ◌⊎◌, ◌↔◌, Contains, ℕ, List, [], length, take, IsTrue, IfOk, IsOk, IsOkUnless, SomeIff, MatchResult, OnOk, OnErr, slice_index, slice_range, string_bytes, if◌then◌else◌, false};
 ghost use Rattle.std.specs.Str.{IsCharBoundary};
@@ -222,6 +223,7 @@ fn read_second(source: &str, start: usize, first: u32) -> Result<(char, usize)>
         return Err(fault_at(source, start + 1));
     }
     let unit = read_hex(source, start + 2)?;
+    // This escape has six bytes, and the error of a wrong pair is at the last one.
     match paired_char(first, unit) {
         Some(ch) => Ok((ch, start + 6)),
         None => Err(Stop::Surrogates(start + 5)),
@@ -239,7 +241,10 @@ fn paired_char(high: u32, low: u32) -> Option<char>
     }
 }
 
-/// The code unit that the four hexadecimal digits at `start`, of either case, spell.
+/// The code unit that the four hexadecimal digits at `start`, of either case, spell. The clauses
+/// `first` and `second` say what the automaton makes of them in the first escape of a string's
+/// character, and in the second of a surrogate pair; `last` is for the error of a pair, which is at
+/// the last digit.
 fn read_hex(source: &str, start: usize) -> Result<u32>
     requires { IsCharBoundary source.now start }
     ensures value { IfOk result (λ u. u ≡ code_unit (slice_range source.now start (start + 4))) }
@@ -259,7 +264,7 @@ fn read_hex(source: &str, start: usize) -> Result<u32>
 }
 
 /// `read_hex`, digit by digit, so that the error is at the first byte that is no digit, or at the
-/// end of the text.
+/// end of the text, where `byte_at` returns 0.
 #[cold]
 #[inline(never)]
 fn read_hex_by_digits(source: &str, start: usize) -> Result<u32>

@@ -20,7 +20,7 @@ pub(crate) trait Target {
         ensures { takes self.old value self.new };
 }
 
-/// A vector takes the value after its others. It needs room for it, and doesn't allocate.
+/// A vector takes the value after its others, and doesn't allocate.
 impl Target for Vec<JsonValue> {
     ghost has_room = { λ values. vec_len values < vec_capacity values };
 

@@ -15,7 +15,8 @@ use std::simd::prelude::*;
 const LANES: usize = 16;
 
 /// The offset after the whitespace at `start`. Most often there is none, or one space, so these are
-/// tested first.
+/// tested first. By `outcome` the rest of the text means the same to the parser's automaton
+/// (docs/ARCHITECTURE.md), in each state that allows whitespace.
 #[inline(always)]
 pub(crate) fn skip_whitespace(source: &str, reading: Reading, start: usize) -> usize
     requires { IsCharBoundary source.now start }
@@ -78,6 +79,7 @@ fn unusual_in_lanes(bytes: &[u8]) -> u64
 {
     let lanes = Simd::<u8, 16>::from_slice(bytes);
     let usual = lanes.simd_eq(Simd::splat(b' ')) | lanes.simd_eq(Simd::splat(b'\n'));
+    // The complement: a bit for each of the 16 bytes.
     0xFFFF - usual.to_bitmask()
 }
 
@@ -129,6 +131,8 @@ fn whitespace_by_bytes(bytes: &[u8], strict: bool) -> usize
         .count()
 }
 
+/// Whether it is a tab, newline, carriage return or space; unless `strict`, also a vertical tab or
+/// form feed.
 fn is_whitespace(byte: u8, strict: bool) -> bool
     ensures { result ≡ is_whitespace strict byte }
 {

@@ -22,7 +22,7 @@ use eight_at_once::{EIGHT, leading_digits, ten_to};
 /// Any 19 digits fit in a `u64`.
 const ALWAYS_KEPT: usize = 19;
 
-/// With so few digits, the exponent of a number of `ALWAYS_KEPT` digits isn't clamped.
+/// With so few digits of its own, the exponent of a number of `ALWAYS_KEPT` digits isn't clamped.
 const NEVER_CLAMPED: usize = 4;
 
 /// The most digits before the point that may be dropped.
@@ -133,7 +133,8 @@ pub fn read_digits(
 }
 
 /// How many digits `bytes` begin with, and the number that they spell when appended to those of
-/// `before`, modulo 2^64.
+/// `before` (in the clause `n`, unreduced), modulo 2^64: `read_scanned` uses it only of so few
+/// digits that it is exact.
 #[inline]
 pub fn scan(bytes: &[u8], before: u64) -> (usize, u64)
     ensures count { result.0 ≡ prefix_len is_ascii_digit bytes.now }
@@ -154,7 +155,7 @@ pub fn scan(bytes: &[u8], before: u64) -> (usize, u64)
     (len + count, number)
 }
 
-/// As `scan`, byte by byte, for the bytes after the last eight digits.
+/// As `scan`, byte by byte, for the last bytes, fewer than eight.
 fn scan_by_bytes(bytes: &[u8], before: u64) -> (usize, u64)
     ensures count { result.0 ≡ prefix_len is_ascii_digit bytes.now }
     ensures number { (n : ℕ) → before ≡ n % 2 ^ 64
@@ -220,7 +221,8 @@ fn longest_prefix(before: u64, digits: &[u8], sure: usize) -> (u64, usize)
 }
 
 /// The position of the first digit that exceeds a limit, among those before and after the point: of
-/// `whole` digits before it `gone` are dropped, and of those after it `held` are kept.
+/// `whole` digits before it `gone` are dropped, and of those after it `held` are kept. (No sum
+/// overflows, since `whole` is the length of a slice.)
 fn first_too_many(whole: usize, gone: usize, held: usize) -> Option<usize>
     requires whole { whole < 2 ^ 63 }
     requires gone { gone ≤ whole }
@@ -268,6 +270,7 @@ fn most_written(dropped: usize, kept_fraction: usize, positive: bool) -> u32
     ensures most { (m n : ℕ) → m ≢ 0 → is_out_of_range m
         ((pos dropped -ℤ pos kept_fraction) +ℤ signed positive n) ≡ nat_lt result n }
 {
+    // `i16::MAX`, and the magnitude of `i16::MIN`.
     if positive {
         (32767 - dropped + kept_fraction) as u32
     } else {
@@ -295,8 +298,8 @@ fn first_above(limit: u32, digits: &[u8]) -> Option<usize>
     None
 }
 
-/// The position of the first digit that is dropped and isn't 0. `gone` digits before the point are
-/// dropped, and `held` after it are kept.
+/// The position of the first digit that is dropped and isn't 0: of the prefix that ends with it
+/// `loses_last` holds. `gone` digits before the point are dropped, and `held` after it are kept.
 #[cold]
 #[inline(never)]
 fn first_lost(whole: &[u8], fraction: &[u8], gone: usize, held: usize) -> Option<usize>

@@ -180,7 +180,7 @@ pub fn io_error<T: fmt::Display>(kind: ErrorKind, error: &T) -> io::Error
 }
 
 /// The first characters of a message, up to one that doesn't fit: then they have more than 80 bytes,
-/// so that `io::Error::new` puts the dots.
+/// as a character has at most 4, so that `io::Error::new` puts the dots.
 #[derive(Drop)]
 struct Head {
     words: ArrayString<84>,

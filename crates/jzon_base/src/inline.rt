@@ -4,7 +4,7 @@ ghost use Rattle.std.specs.Str.{IsCharBoundary};
 
 use arrayvec::ArrayString;
 
-/// The text, which must have at most `MAX` bytes.
+/// The text, inline.
 #[inline(always)]
 pub(crate) fn text_in<const MAX: usize>(text: &str) -> ArrayString<MAX>
     requires { length text.now ≤ MAX }

@@ -1,5 +1,4 @@
-//! A key of an object: text that is stored inline if it is short (docs/RULES.md, "Short and long
-//! strings").
+//! The keys of objects (docs/RULES.md, "Short and long strings").
 ghost use Rattle.std.specs.Prelude.{◌≡◌, ◌<◌, ◌≤◌, ◌++◌, ◌∷◌, List, ℕ, [], length, take, string_bytes, IfOk, IsOkUnless, OnErr, OnOk};
 ghost use Rattle.std.specs.Str.{bytes_eq};
 ghost use Rattle.jzon_base.specs.Key.{key_bytes};

@@ -30,8 +30,7 @@ use std::marker::Model;
 /// How many elements a vector that grows one by one first has room for.
 const FIRST_ROOM: usize = 8;
 
-/// Distinct keys in the order in which they were put, and the index in which the position of each
-/// is found.
+/// Distinct keys, and their index, which may be empty.
 #[derive(Drop)]
 pub struct Keys {
     keys: Vec<Key>,

@@ -231,7 +231,7 @@ fn same_magnitude(mantissa: u64, exponent: i16, other_mantissa: u64, other_expon
     }
 }
 
-/// `mantissa * 10 ^ power`, or `None` if that is 2^64 or more.
+/// `mantissa * 10 ^ power`, or `None` if that is 2^64 or more (it never is for a mantissa 0).
 #[tactic(auto, using(crate::proofs::Numbers::Powers::too_large))]
 fn times_power(mantissa: u64, power: u32) -> Option<u64>
     requires { 0 < mantissa }

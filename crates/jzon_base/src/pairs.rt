@@ -102,7 +102,8 @@ impl<V> Pairs<V> {
         Pairs::merged(alloc, keys, values)
     }
 
-    /// The entries of more than `LINEAR_MAX` keys, or of keys of which some repeat.
+    /// `from_entries` of more than `LINEAR_MAX` keys, or of keys of which some repeat. Not inlined,
+    /// because `from_entries` is.
     #[inline(never)]
     fn merged(alloc: Global, keys: Vec<Key>, values: Vec<V>) -> Result<Pairs<V>, AllocError>
     where

@@ -46,8 +46,7 @@ impl PartialEq for Object {
 
     ghost laws = { on_per view_object (partial_equiv_from_equiv same_equiv) };
 
-    // Not inlined, as `same_array` isn't, so that comparing two primitives needn't save registers
-    // on the stack.
+    // Not inlined, so that comparing two primitives needn't save registers on the stack.
     #[inline(never)]
     #[cycle(same)]
     fn eq(&self, other: &Object) -> bool {

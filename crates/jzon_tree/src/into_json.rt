@@ -68,6 +68,7 @@ impl<T: Direct> IntoJson for T {
 impl IntoJson for &str {
     ghost means = { λ s v. v ≡ text (kind_of s.now) s.now };
 
+    // 30 is `short::MAX_LEN`.
     ghost is_free = { λ s. length s.now ≤ 30 };
 
     fn into_json(self, alloc: Global) -> Result<JsonValue> {

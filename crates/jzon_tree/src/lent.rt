@@ -2,6 +2,9 @@
 //! checker proves what is written back through a reference only if its type isn't that of the
 //! receiver (docs/TOOLCHAIN.md, "A `&mut T` out of a `T`"). So three calls have their bodies
 //! in the trait `Tree`: `get_in`, `at_in` and `at_index_in`.
+//!
+//! In clauses `items_with_place` are the elements once there is one for the index, and `place_made`
+//! is the position of that one.
 
 ghost use Rattle.std.specs.Prelude.{◌≡◌, ◌≤◌, [], length, slice_get, slice_set, IfOk, OnErr, IfSome, IsOkUnless, None, Some, unwrap_or};
 ghost use Rattle.std.specs.Borrow.{sem, LendsIf, LendsIfOk, LendsSoOk};

@@ -1,5 +1,6 @@
 //! A value inside a value, which may be missing (docs/RULES.md, "Readers"). A `View` has the
-//! readers of `JsonValue`, and a missing value reads as null.
+//! readers of `JsonValue`. In clauses `shown` is its value, if there is one, and `seen` is that
+//! value or else null.
 #![tactic(auto, using(crate::proofs::Values::Views::views, crate::proofs::Values::PartViews::seen))]
 
 ghost use Rattle.std.specs.Prelude.{◌≡◌, ◌<◌, ◌^◌, pos, map, is_some, option_map, slice_get, FitsSigned, Some};

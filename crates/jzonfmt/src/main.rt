@@ -15,7 +15,6 @@ use std::process::ExitCode;
 /// How many bytes of the printed text are collected before standard output gets them.
 const BUFFER_SIZE: usize = 65536;
 
-/// Runs the program on the arguments, the standard input and the standard output.
 fn main(rt: HostRuntime) -> ExitCode {
     let status = match words(&rt) {
         Ok(words) => drive_buffered(&rt, words.as_slice()),

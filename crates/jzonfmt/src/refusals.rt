@@ -33,7 +33,7 @@ fn run_under_refusals(rt: HostRuntime) -> Result<(), Fail> {
 }
 
 /// An input whose value takes no memory, or that is rejected; the status, what is written to
-/// standard output and to standard error, and the least number of allocations.
+/// standard output and to standard error, and the number of allocations.
 type Driven = (&'static [u8], u8, &'static [u8], &'static [u8], usize);
 
 const DRIVEN: &[Driven] = &[
@@ -97,7 +97,7 @@ fn drive_under_refusals(rt: HostRuntime) -> Result<(), Fail> {
 /// More than the input and the chunk of a run take.
 const MOST_OF_FAILED: usize = 1 << 20;
 
-/// A run on a writer that fails at this call, and drops all.
+/// A run on a writer that fails at this call.
 fn fail_at(rt: &impl Abort, alloc: Global, call: usize) {
     let mut reader: &[u8] = b"-12.50e3";
     let mut writer = SlowWriter::new(alloc, call, Trouble::Fails(ErrorKind::BrokenPipe));
@@ -108,6 +108,7 @@ fn fail_at(rt: &impl Abort, alloc: Global, call: usize) {
 /// A run whose writer fails drops all that it allocates.
 #[test]
 fn failed_writes_counted(rt: HostRuntime) -> Result<(), Fail> {
+    // A call for each byte of the output.
     for call in 1..8 {
         let mut refusals = Refusals::new(rt.alloc());
         refusals.open();

@@ -11,7 +11,6 @@ use std::simd::prelude::*;
 /// How many digits are read at once.
 pub(crate) const EIGHT: usize = 8;
 
-/// `10 ^ n` at each position `n`.
 const POWERS_OF_TEN: [u64; 9] = [
     1,
     10,
@@ -70,7 +69,8 @@ fn number_of_eight(word: u64) -> u64
         → result ≡ values_number ds }
 {
     // Each product adds to every part of the word 10, 100 or 10,000 times the part below it, which
-    // spells the digits before. The shift and the mask keep every other sum.
+    // spells the digits before. The shift and the mask keep every other sum. What wraps is the
+    // highest part, moved out of the word.
     let pairs = (word.wrapping_mul(10 * 0x100 + 1) >> 8) & 0x00ff_00ff_00ff_00ff;
     let fours = (pairs.wrapping_mul(100 * 0x1_0000 + 1) >> 16) & 0x0000_ffff_0000_ffff;
     fours.wrapping_mul(10_000 * 0x1_0000_0000 + 1) >> 32

@@ -1,5 +1,4 @@
-//! Keys without an index are compared one by one. Up to `LINEAR_MAX` keys have none, unless it is
-//! left from when there were more.
+//! Keys without an index are compared one by one.
 ghost use Rattle.std.specs.Prelude.{◌≡◌, ◌<◌, ◌≤◌, ◌-◌, ◌&&◌, not, length, IsTrue, ◌↔◌, slice_index};
 ghost use Rattle.std.specs.List.{list_any, position, IsDistinct};
 ghost use Rattle.std.specs.Str.{bytes_eq};

@@ -21,9 +21,7 @@ use std::alloc::{AllocError, Global};
 /// The index is in a box, so that `KnownKeys` is small.
 #[derive(Drop)]
 pub enum KnownKeys {
-    /// The filter of few keys.
     Few(Filter),
-    /// The index of more.
     Indexed(Box<Runs>),
 }
 

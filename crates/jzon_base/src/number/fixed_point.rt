@@ -1,5 +1,6 @@
 //! Numbers as fixed-point integers (docs/RULES.md, "Fixed-point readings"): `mantissa * 10 ^
-//! (exponent + point)`, so that `point` is the number of decimal places that are kept.
+//! (exponent + point)`, so that `point` is the number of decimal places that are kept. If it is at
+//! most 32768, `-point` is an exponent (clauses `equal`).
 
 ghost use Rattle.std.specs.Prelude.{◌≡◌, pos, ◌/◌, ◌%◌, ◌==◌, ◌+ℤ◌, ◌<◌, ◌≤◌, ◌^◌, FitsSigned, IfSome, IsTrue, true};
 ghost use Rattle.std.specs.Int.{w64};

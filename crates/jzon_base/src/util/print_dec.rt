@@ -25,7 +25,7 @@ const PLACES: usize = 16;
 #[doc(hidden)]
 pub const DIGITS_ROOM: usize = 48;
 
-/// The text of a number.
+/// The text of a number. In clauses its room, `MAX_LEN`, is written 29.
 pub type NumberText = ArrayString<MAX_LEN>;
 
 /// Writes the text of the number `n * 10 ^ exponent` with its sign, at most `MAX_LEN` bytes. An
@@ -54,8 +54,9 @@ pub fn is_common(mantissa: u64, exponent: i16) -> bool
     mantissa.ilog10() as usize + 1 > exponent.unsigned_abs() as usize
 }
 
-/// Puts the text of a common number at the offset, where a minus is, in a few stores, and returns
-/// its end. The bytes before it stay. The caller writes any other number by `number_text`.
+/// Puts the text of a common number at the offset, where a minus is (a positive number overwrites
+/// it), in a few stores, and returns its end. The bytes before it stay. The caller writes any other
+/// number by `number_text`.
 #[doc(hidden)]
 #[inline(always)]
 pub fn put_digits(
@@ -159,7 +160,7 @@ fn push_fraction(text: &mut NumberText, digits: &str, places: usize)
 }
 
 /// Adds the exponent of `count` digits divided by `10 ^ places`, if the first digit is before the
-/// point.
+/// point: nothing for 0, and `e+1` for 1, the largest.
 fn push_small_exponent(text: &mut NumberText, count: usize, places: usize)
     requires count { count ≤ 20 }
     requires small { 18 ≤ places }

@@ -1,4 +1,5 @@
-//! A writer with a buffer on the stack.
+//! A writer with a buffer on the stack. In clauses `held` is what the writer has, and after it what
+//! is `untaken` in the buffer.
 
 ghost use Rattle.std.specs.Prelude.{◌≡◌, ℕ, ◌+◌, ◌≤◌, [], length, take, MatchOption, OnErr, OnOk, IfNone, IsErr, IsSome};
 ghost use Rattle.std.specs.Io.KnownBytes.{Appends, Keeps};
@@ -161,7 +162,6 @@ impl<W: Write, S: Start> Write for Buffered<'_, W, S> {
     }
 }
 
-/// Where there is room, bytes, short strings, digits and short lines are added at once.
 impl<W: Write, S: Start> Outlet for Buffered<'_, W, S> {
     #[inline(always)]
     fn put<P: Piece>(&mut self, piece: P) -> bool {

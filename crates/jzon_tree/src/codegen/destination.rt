@@ -12,7 +12,7 @@ use std::io::Write;
 /// names no struct with a ghost field, beside whose `&mut` the borrow checker admits no other type
 /// arguments.
 pub(crate) trait Outlet: Write {
-    /// Adds the piece if it is short, there is room for it and it needs no escape.
+    /// As `Buffer::put`.
     fn put<P: Piece>(&mut self, piece: P) -> bool
         ensures done { IsTrue result → Adds (Just (P.text piece))
             (Self.Write.contents self.old) (Self.Write.contents self.new) }
@@ -26,7 +26,8 @@ pub trait Destination {
     /// The writer.
     type T: Write;
 
-    // The bytes written so far, and the reference that is written through, if one is.
+    // The bytes written so far, if the writer reports them; and the reference that is written
+    // through, if one is.
     ghost out: { Self → Option (List ℕ) };
 
     ghost lender: { Self → Option GName } = { λ _. None };

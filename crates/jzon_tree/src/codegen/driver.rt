@@ -1,5 +1,8 @@
 //! Goes over a value or an object, and calls the hooks of a generator. A hook whose name begins
 //! with `try_` stores its error in the slot (`error_slot`); `store` does so for the other hooks.
+//!
+//! After an error `PrintsIf` promises a prefix of a text only for valid values: parts that weren't
+//! read aren't known to be valid.
 
 ghost use Rattle.std.specs.Prelude.{◌≡◌, ◌-◌, ◌<◌, [], length, map, slice_index_or, OnOk, OnErr, IsSome};
 ghost use Rattle.jzon_base.specs.PairList.{keys_of};
@@ -93,7 +96,7 @@ pub(crate) fn write_value<G: Generator>(
 }
 
 /// Writes `[]`, or the brackets of an array and its elements between them, in an indent of their
-/// own. Not inlined into the loops, as `write_value` is.
+/// own.
 #[cycle(write_value)]
 #[inline(never)]
 fn write_array<G: Generator>(g: &mut G, items: &[JsonValue], slot: &mut ErrorSlot) -> SlotResult<()>
@@ -128,7 +131,7 @@ fn write_items<G: Generator>(g: &mut G, items: &[JsonValue], slot: &mut ErrorSlo
 }
 
 /// Asks for the order of the entries. Then writes `{}`, or the brackets of an object and its
-/// entries between them, in an indent of their own. Not inlined, as `write_array` isn't.
+/// entries between them, in an indent of their own.
 #[cycle(write_value)]
 #[inline(never)]
 pub(crate) fn write_pairs<G: Generator>(

@@ -1,5 +1,8 @@
 //! Keeps an 88-byte `io::Error` out of return values: it is stored in a slot, and a one-byte
 //! `Failed` is returned.
+//!
+//! In clauses `Sends (Just bytes)` says that a writer received these bytes, or after an error a
+//! prefix of them.
 #![tactic(auto, using(crate::proofs::Printing::Appends::sent))]
 
 ghost use Rattle.std.specs.Prelude.{◌≡◌, ◌≤◌, Some, Ok, IfErr, IsErr, IsSome, OnOk, OnErr, MatchResult, length, drop};
@@ -48,8 +51,7 @@ pub(super) fn take_result(step: SlotResult<()>, slot: ErrorSlot) -> io::Result<(
 }
 
 /// Writes the bytes, of which a prefix is written if the writer fails; its error is then in the
-/// slot. Most writers take all bytes at once. If there are none, the writer isn't called: its 0
-/// would count as an error.
+/// slot. If there are none, the writer isn't called: its 0 would count as an error.
 #[inline(always)]
 pub(super) fn send<W: Write>(writer: &mut W, bytes: &[u8], slot: &mut ErrorSlot) -> SlotResult<()>
     ensures bytes { Sends (Just bytes.now) (W.contents writer.old) (W.contents writer.new) result }

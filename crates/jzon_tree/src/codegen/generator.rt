@@ -1,4 +1,5 @@
-//! The trait `Generator`: its hooks, and the provided methods.
+//! The trait `Generator`: its hooks, and the provided methods. In clauses `Emits (Just bytes)` says
+//! that a hook added these bytes, or failed after a prefix of them and counted a fault.
 
 ghost use Rattle.std.specs.Prelude.{◌≡◌, ◌+◌, ◌-◌, ◌<◌, ◌≤◌, ◌^◌, ◌∷◌, ◌++◌, [], length, take, drop, MatchResult, OnErr, IsSome};
 ghost use Rattle.std.specs.Borrow.{sem, Lends};

@@ -65,6 +65,7 @@ impl Piece for u8 {
 
     ghost is_short = { λ _. ⊤ };
 
+    // Any byte would do: `put` replaces it.
     ghost seed_bytes = { λ _. 32 ∷ [] };
 
     #[inline(always)]
@@ -120,6 +121,8 @@ impl Piece for QuotedKey<'_> {
 
     ghost seed_bytes = { λ _. replicate (BY_ENDS_ROOM + 2) quotation_mark };
 
+    /// None of a key that is longer than `put_quoted` puts, by a copy of its first and of its last
+    /// bytes.
     #[inline(always)]
     fn seed(self) -> Option<&'static [u8]> {
         if self.0.len() > BY_ENDS_MAX_LEN {
@@ -146,6 +149,8 @@ impl Piece for Number {
 
     ghost seed_bytes = { λ _. replicate DIGITS_ROOM minus_sign };
 
+    /// None of a number that isn't common, which `put_digits` can't put: 0, and those with a
+    /// positive exponent, more than 16 places or no digit before the point.
     #[inline(always)]
     fn seed(self) -> Option<&'static [u8]> {
         let (_, mantissa, exponent) = self.as_parts();

@@ -1,7 +1,6 @@
 //! The generators of the crate: they write a text in a layout, into memory of their own or to a
 //! borrowed writer. `put` of the destination adds a piece or nothing; if nothing, the bytes go to
-//! the destination's writer, by `send`. `write_string` calls `try_write_string` with an error
-//! slot of its own, as other hooks do.
+//! the destination's writer, by `send`.
 
 ghost use Rattle.std.specs.Prelude.{◌≡◌, [], Ok, None, Some, IsSome, IsTrue, IsUtf8, IfErr, IfOk, MatchResult, OnErr, string_bytes};
 ghost use Rattle.std.specs.IoError.{error_kind};
@@ -81,8 +80,7 @@ impl<P: Destination, L: Layout> TextGenerator<P, L> {
         self.write_number_text(num, slot)
     }
 
-    /// Writes a number that the destination didn't put. It is a function of its own for the same
-    /// reason as `write_decimal`.
+    /// Writes a number that the destination didn't put. It is apart as `write_decimal` is.
     #[inline(never)]
     fn write_number_text(&mut self, num: &Number, slot: &mut ErrorSlot) -> SlotResult<()>
         ensures bytes { Emits (Just (written_text num.now))
@@ -212,6 +210,7 @@ impl<P: Destination, L: Layout> Generator for TextGenerator<P, L> {
     }
 
     fn try_write_number(&mut self, num: &Number, slot: &mut ErrorSlot) -> SlotResult<()> {
+        // Part 2 is the exponent.
         if num.as_parts().2 != 0 {
             return self.write_decimal(num, slot);
         }
@@ -316,7 +315,8 @@ pub type WriterGenerator<'a, W> = TextGenerator<&'a mut W, Compact>;
 pub type PrettyWriterGenerator<'a, W> = TextGenerator<&'a mut W, Pretty>;
 
 impl<'a, W: Write> WriterGenerator<'a, W> {
-    /// A generator that appends to what was written to the writer.
+    /// A generator that appends to what was written to the writer. No indent is open and no fault
+    /// is counted (`fresh`), and it writes through this reference (`ghost_name`).
     pub fn new(writer: &'a mut W) -> WriterGenerator<'a, W>
         ensures { ⟦<WriterGenerator<'a, W> as Generator>⟧.meaning result
             ≡ fresh (W.contents writer.old) compact_style (Some writer.entry.ghost_name) }

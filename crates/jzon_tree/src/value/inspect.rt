@@ -13,7 +13,6 @@ use crate::value::JsonValue;
 use jzon_base::error::Error;
 use jzon_base::number::Number;
 
-/// What was found in a value.
 #[derive(Clone, Copy)]
 pub(crate) struct Inspection {
     /// How many non-empty containers nest, saturating at `u128::MAX`.

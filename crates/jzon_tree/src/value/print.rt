@@ -159,8 +159,8 @@ fn write_in<W: Write, L: Layout + Drop, S: Start>(
     answer
 }
 
-/// Writes the text of the value in the layout to an outlet. It is generic because the borrow checker
-/// doesn't cover a `TextGenerator` over a `&mut` of a struct with a ghost field.
+/// Writes the text of the value in the layout to an outlet: the `Buffered` of `write_in`. It is
+/// generic for the reason that `Outlet` gives.
 #[inline(always)]
 fn write_outlet<W: Outlet, L: Layout + Drop>(
     json: &JsonValue,
@@ -174,7 +174,7 @@ fn write_outlet<W: Outlet, L: Layout + Drop>(
     let mut generator = TextGenerator::over(Through { outlet }, layout);
     let answer = write_json(&mut generator, json);
     let Through { outlet } = generator.destination;
-    // As in `write_in`.
+    // No effect at run time, as in `write_in`.
     let _ = &*outlet;
     answer
 }

@@ -38,7 +38,7 @@ pub fn is_readable(value: &JsonValue, depth: u16) -> bool
     }
 }
 
-/// The same of a value in a container, if at most `depth` nest in that container.
+/// `is_readable` of a value in a container, where `depth` counts that container too.
 #[cycle(is_readable)]
 #[inline(always)]
 fn is_readable_inside(value: &JsonValue, depth: u16) -> bool
