@@ -1,6 +1,6 @@
 //! Parses, holds, changes and prints JSON without typed structs: a port of the Rust crate `jzon`.
 //!
-//! The version is `0.12.5+rattle.5`.
+//! The version is `0.12.5+rattle.6`.
 #![tactic(auto)]
 
 mod bytes_at;
