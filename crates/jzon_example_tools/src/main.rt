@@ -33,9 +33,12 @@ impl FromJson for Order {
     }
 }
 
-/// Refuses a short password, which the message doesn't show.
+/// Refuses a short password. No message shows what was sent.
 fn check_password(fields: &Fields<'_>) -> Result<(), Error> {
-    match fields.optional::<String>("password")? {
+    let password = fields
+        .optional::<String>("password")
+        .map_err(|error| error.without_value())?;
+    match password {
         Some(password) if password.len() < 12 => {
             Err(
                 fields
