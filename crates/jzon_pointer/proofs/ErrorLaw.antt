@@ -1,7 +1,7 @@
 -- No message of an error is longer than 1,000 bytes: how long each part of it is at most. A lemma's last clause is of
 -- each variant that no other one names, so also of a new one.
 use Rattle.std.proofs.Common.{◌≡◌, ◌≤◌, ◌<◌, ◌^◌, ℕ, List, [], ◌++◌, length, Bool, true, false, if◌then◌else◌, Option}
-use Rattle.std.proofs.Common.{None, Some, decimal, nat_le, ap, inl, inr, arith, lit<, lit≤, length-append}
+use Rattle.std.proofs.Common.{None, Some, decimal, nat_le, ap, inl, inr, arith, lit<, lit≤, length-append, string_bytes}
 use Rattle.std.proofs.lemmas.Bool.{cases_lt}
 use Rattle.std.proofs.lemmas.Bool.Decides.{nat_tests}
 use Rattle.std.proofs.lemmas.Fmt.{length-decimal-le}
@@ -11,12 +11,14 @@ use Rattle.jzon.specs.Error as text
 use Rattle.jzon.specs.Error.TheVariants as fault
 use Rattle.jzon.specs.NumberText.{decimal_text}
 use Rattle.jzon_pointer.specs.Errors.{at_text, cause_text, count_text, error_text, expected_text, found_text, in_member_text}
-use Rattle.jzon_pointer.specs.Errors.{in_operation_text, lost_text, member_of, member_text, number_shown, operation_of}
-use Rattle.jzon_pointer.specs.Errors.{place_of, pointer_of, pointer_words, position_of, text_of, text_words, what_of}
+use Rattle.jzon_pointer.specs.Errors.{in_operation_text, inner_words, lost_text, member_of, member_text, number_shown, operation_of}
+use Rattle.jzon_pointer.specs.Errors.{place_of, pointer_of, pointer_words, position_of, text_of, text_words}
 use Rattle.jzon_pointer.specs.Errors.{what_words, words_text}
 use Rattle.jzon_pointer.specs.ErrorTexts.{parent_text, primitive_text, token_text}
 use Rattle.jzon_pointer.specs.Shown.{place_text, shown_char}
 use Rattle.jzon_pointer.specs.declared.error.Error.{Error}
+use Rattle.jzon_pointer.specs.declared.error.Inner.{Inner}
+use Rattle.jzon_pointer.specs.declared.error.Inner.TheVariants.{Text, Boxed}
 use Rattle.jzon_pointer.specs.declared.error.What.{What}
 use Rattle.jzon_pointer.specs.declared.error.What.TheVariants as what
 use Rattle.jzon_pointer.specs.declared.error.parts.Cause.{Cause}
@@ -124,10 +126,10 @@ text-short _ = grind (arith, lengths)
 
 -- ---- the message
 
-all-words-short : (t : Option text.Error) (w : Option What) (p : List ℕ) → length (words_text t w p) ≤ 491
-all-words-short (Some e) w p = grind (arith, text-short)
-all-words-short None (Some w) p = what-short w p
-all-words-short None None p = lit≤ tt
+all-words-short : (i : Inner) → length (inner_words i) ≤ 491
+all-words-short (Text l) = grind (arith, text-short)
+all-words-short (Boxed b) = what-short b.value.what (string_bytes b.value.pointer)
+all-words-short _ = lit≤ tt
 
 operation-short : (n : Option ℕ) → length (in_operation_text n) ≤ 32
 operation-short None = lit≤ tt
@@ -153,8 +155,6 @@ error-short e =
     let n = operation_of e in
     let m = member_of e in
     let p = pointer_of e in
-    let t = text_of e in
-    let w = what_of e in
-    let at = position_of t (place_of e) in
-    line-short (in_operation_text n) (in_member_text m) (place_text p) (words_text t w p) (at_text at)
-    (operation-short n) (in-member-short m) (place-short p) (all-words-short t w p) (at-short at)
+    let at = position_of (text_of e) (place_of e) in
+    line-short (in_operation_text n) (in_member_text m) (place_text p) (words_text e) (at_text at)
+    (operation-short n) (in-member-short m) (place-short p) (all-words-short e.inner) (at-short at)

@@ -18,7 +18,7 @@ use Rattle.jzon_pointer.specs.ErrorTexts.{parent_text, primitive_text, token_tex
 use Rattle.jzon_pointer.specs.Shown.{names_text, place_text, pointer_shown, shown_char, token_shown, words_shown}
 use Rattle.jzon_pointer.specs.declared.error.Error.{Error}
 use Rattle.jzon_pointer.specs.declared.error.Inner.{Inner}
-use Rattle.jzon_pointer.specs.declared.error.Inner.TheVariants.{Memory, Text, Boxed}
+use Rattle.jzon_pointer.specs.declared.error.Inner.TheVariants.{Memory, NotANumber, Text, Boxed}
 use Rattle.jzon_pointer.specs.declared.error.Report.{Report}
 use Rattle.jzon_pointer.specs.declared.error.What.{What}
 use Rattle.jzon_pointer.specs.declared.error.What.TheVariants as what
@@ -42,9 +42,14 @@ use Rattle.jzon_pointer.specs.declared.pointer.Reason.TheVariants.{BadEscape, No
 abbrev pub memory : Error
 memory = record { inner = Memory }
 
+-- the error of a NaN for whose report there is no memory
+abbrev pub not_a_number : Error
+not_a_number = record { inner = NotANumber }
+
 -- of what an error says that is in a box, and else this
 abbrev pub in_box : {X : Type 0} → (Report → X) → X → Inner → X
 in_box f x Memory = x
+in_box f x NotANumber = x
 in_box f x (Text l) = x
 in_box f x (Boxed b) = f b.value
 
@@ -56,6 +61,21 @@ inner_memory _ = false
 -- whether an allocation failed
 abbrev pub is_memory : Error → Bool
 is_memory e = inner_memory e.inner
+
+-- whether this is a NaN
+abbrev pub is_nan : What → Bool
+is_nan what.NotANumber = true
+is_nan _ = false
+
+-- whether it says that a number is a NaN
+abbrev pub inner_nan : Inner → Bool
+inner_nan NotANumber = true
+inner_nan (Boxed b) = is_nan b.value.what
+inner_nan _ = false
+
+-- whether it says so
+abbrev pub is_not_a_number : Error → Bool
+is_not_a_number e = inner_nan e.inner
 
 -- what went wrong with a value, a pointer or a patch
 abbrev pub what_of : Error → Option What
@@ -76,6 +96,7 @@ member_of e = in_box (λ r. r.member) None e.inner
 -- the place that its inside has
 abbrev pub inner_place : Inner → Option Place
 inner_place Memory = None
+inner_place NotANumber = None
 inner_place (Text l) = l.place
 inner_place (Boxed b) = b.value.place
 
@@ -109,7 +130,7 @@ SaysOrMemory e w p n m at = (e ≡ memory) ⊎ Says e w p n m at
 abbrev pub IsLost : Result Value PointerError → List ℕ → Error → Type 0
 IsLost r path e = (lost : PointerError) × (r ≡ Err lost) × SaysOrMemory e (Some (what.Pointer lost)) path None None None
 
--- an error becomes one that says this; that of a text and of memory stays as it is
+-- an error becomes one that says this; that of a text, and of memory, even for the report of a NaN, stays as it is
 abbrev pub Becomes : Error → Error → Option What → List ℕ → Option ℕ → Option Member → Option Place → Type 0
 Becomes e f w p n m at = MatchOption (what_of e) (f ≡ e) (λ _. Says f w p n m at)
 
@@ -152,6 +173,12 @@ count_text n = if nat_lt n (2 ^ 64) then decimal n else []
 abbrev pub number_shown : Decimal → List ℕ
 number_shown n = if nat_le (length (decimal_text n)) 29 then decimal_text n else []
 
+-- a number with at most n digits after the point
+abbrev pub fixed_text : ℕ → List ℕ
+fixed_text n = if n == 0 then codes "an integer"
+    else (if n == 1 then codes "a number with at most 1 digit after the point"
+    else codes "a number with at most " ++ (count_text n ++ codes " digits after the point"))
+
 -- what is expected
 abbrev pub expected_text : Expected → List ℕ
 expected_text expected.Value = codes "a value"
@@ -168,9 +195,7 @@ expected_text expected.I8 = codes "an integer from -128 to 127"
 expected_text expected.I16 = codes "an integer from -32768 to 32767"
 expected_text expected.I32 = codes "an integer from -2147483648 to 2147483647"
 expected_text expected.I64 = codes "an integer from -9223372036854775808 to 9223372036854775807"
-expected_text (expected.Fixed n) = if n == 0 then codes "an integer"
-    else (if n == 1 then codes "a number with at most 1 digit after the point"
-    else codes "a number with at most " ++ (count_text n ++ codes " digits after the point"))
+expected_text (expected.Fixed n) = fixed_text n
 expected_text (expected.AtMost n) = if n == 1 then codes "an array of at most 1 element"
     else codes "an array of at most " ++ (count_text n ++ codes " elements")
 expected_text (expected.Above n) = if n == 1 then codes "an array of more than 1 element"
@@ -251,11 +276,16 @@ text_words fault.OutOfMemory = codes "Out of memory"
 text_words (fault.DuplicateKey line column) = codes "Duplicate key"
 text_words (fault.InexactNumber line column) = codes "Number is not exact"
 
+-- the words that its inside has
+abbrev pub inner_words : Inner → List ℕ
+inner_words Memory = codes "Out of memory"
+inner_words NotANumber = codes "not a number"
+inner_words (Text l) = text_words l.error
+inner_words (Boxed b) = what_words b.value.what (string_bytes b.value.pointer)
+
 -- the words of an error
-abbrev pub words_text : Option text.Error → Option What → List ℕ → List ℕ
-words_text (Some e) w p = text_words e
-words_text None (Some w) p = what_words w p
-words_text None None p = codes "Out of memory"
+abbrev pub words_text : Error → List ℕ
+words_text e = inner_words e.inner
 
 -- the number of an operation
 abbrev pub in_operation_text : Option ℕ → List ℕ
@@ -291,13 +321,17 @@ position_of e (Some p) = Some (p.line, p.column)
 abbrev pub error_text : Error → List ℕ
 error_text e =
     in_operation_text (operation_of e) ++ (in_member_text (member_of e) ++ (place_text (pointer_of e)
-    ++ (words_text (text_of e) (what_of e) (pointer_of e) ++ at_text (position_of (text_of e) (place_of e)))))
+    ++ (words_text e ++ at_text (position_of (text_of e) (place_of e)))))
+
+-- the kind of the `io::Error` that its inside becomes
+abbrev pub inner_kind : Inner → ErrorKind
+inner_kind Memory = kind.OutOfMemory
+inner_kind (Text l) = io_kind l.error
+inner_kind _ = kind.InvalidData
 
 -- the kind of the `io::Error` that it becomes
-abbrev pub kind_of : Option text.Error → Option What → ErrorKind
-kind_of (Some e) w = io_kind e
-kind_of None None = kind.OutOfMemory
-kind_of None (Some w) = kind.InvalidData
+abbrev pub kind_of : Error → ErrorKind
+kind_of e = inner_kind e.inner
 
 -- no message is longer than 1,000 bytes
 abbrev pub ShortLaw : Type 0

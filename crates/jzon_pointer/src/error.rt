@@ -3,12 +3,13 @@
 //! `error_text` of specs/Errors.antt is what an error prints, `what_of` and the words beside it what it
 //! says, and `short` its law: no message is longer than 1,000 bytes.
 
-ghost use Rattle.std.specs.Prelude.{◌≡◌, ◌∷◌, ◌++◌, [], None, Some, option_map, string_bytes};
+ghost use Rattle.std.specs.Prelude.{◌≡◌, ◌⊎◌, ◌∷◌, ◌++◌, [], true, None, Some, option_map, string_bytes};
 ghost use Rattle.std.specs.Fmt.{decimal};
 ghost use Rattle.std.specs.IoError.{error_kind};
 ghost use Rattle.std.specs.Option.{option_copied};
 ghost use Rattle.jzon_pointer.specs.Escaped.{escaped};
-ghost use Rattle.jzon_pointer.specs.Errors.{error_text, hidden_what, is_memory, kind_of, located_error, member_of, memory, operation_of, place_of, pointer_of, position_of, text_of, what_of, Becomes, BecomesOrMemory, SaysOrMemory, ShortLaw};
+ghost use Rattle.jzon_pointer.specs.Errors.{error_text, hidden_what, is_memory, is_not_a_number, kind_of, located_error, member_of, memory, not_a_number, operation_of, place_of, pointer_of, position_of, text_of, what_of, Becomes, BecomesOrMemory, Says, SaysOrMemory, ShortLaw};
+ghost use Rattle.jzon_pointer.specs.declared.error.What.TheVariants as what;
 
 mod located;
 mod parts;
@@ -36,10 +37,11 @@ pub struct Error {
 }
 
 /// A text's error is as `jzon` returns it, so that `?` needs no allocator. What others say is in a box,
-/// so that a success moves little.
+/// so that a success moves little. That of a NaN is told apart even if there is no memory for the box.
 #[derive(PartialEq, Eq, Drop)]
 enum Inner {
     Memory,
+    NotANumber,
     Text(LocatedError),
     Boxed(Box<Report>),
 }
@@ -89,6 +91,22 @@ impl Error {
         ensures { SaysOrMemory result (Some what) [] None None None }
     {
         Error::boxed(alloc, what, String::new(alloc))
+    }
+
+    /// The error of a NaN, of the whole value. `is_not_a_number` says so even where memory lacks for the
+    /// rest: then it has no `what`, and stays as it is, as `Error::MEMORY` does.
+    #[cold]
+    pub fn not_a_number(alloc: Global) -> Error
+        ensures error { (result ≡ not_a_number) ⊎ Says result (Some what.NotANumber) [] None None None }
+        ensures nan { is_not_a_number result ≡ true }
+    {
+        let error = Error::new(alloc, What::NotANumber);
+        if error.is_not_a_number() {
+            return error;
+        }
+        Error {
+            inner: Inner::NotANumber,
+        }
     }
 
     /// The error of what went wrong at a pointer.
@@ -146,7 +164,8 @@ impl Error {
     }
 
     /// The error in operation `number` of a patch, from 0, and of its member if the pointer is that
-    /// member's.
+    /// member's. The error of a text or of a failed allocation stays as it is (`Becomes`), as it
+    /// does in `at_place` and `without_value`.
     pub fn in_operation(self, number: usize, member: Option<Member>) -> Error
         ensures { Becomes self result (what_of self) (pointer_of self) (Some number) member
             (place_of self) }
@@ -159,10 +178,7 @@ impl Error {
                     inner: Inner::Boxed(report),
                 }
             }
-            Inner::Text(located) => Error {
-                inner: Inner::Text(located),
-            },
-            Inner::Memory => Error::MEMORY,
+            inner => Error { inner },
         }
     }
 
@@ -178,10 +194,7 @@ impl Error {
                     inner: Inner::Boxed(report),
                 }
             }
-            Inner::Text(located) => Error {
-                inner: Inner::Text(located),
-            },
-            Inner::Memory => Error::MEMORY,
+            inner => Error { inner },
         }
     }
 
@@ -209,10 +222,7 @@ impl Error {
                     inner: Inner::Boxed(report),
                 }
             }
-            Inner::Text(located) => Error {
-                inner: Inner::Text(located),
-            },
-            Inner::Memory => Error::MEMORY,
+            inner => Error { inner },
         }
     }
 
@@ -223,8 +233,19 @@ impl Error {
         matches!(&self.inner, Inner::Memory)
     }
 
+    /// Whether it says that a number is a NaN.
+    pub fn is_not_a_number(&self) -> bool
+        ensures { result ≡ is_not_a_number self.now }
+    {
+        match &self.inner {
+            Inner::NotANumber => true,
+            Inner::Boxed(report) => matches!(&report.what, What::NotANumber),
+            _ => false,
+        }
+    }
+
     /// What went wrong with a value, a pointer or a patch. `None` if a text is rejected, or if an
-    /// allocation failed.
+    /// allocation failed, also for the report of a NaN.
     ///
     /// ```rust
     /// Err(error) if matches!(error.what(), Some(What::Pointer(_))) => Ok(None),
@@ -276,7 +297,7 @@ impl Error {
         match &self.inner {
             Inner::Boxed(report) => report.place,
             Inner::Text(located) => located.place,
-            Inner::Memory => None,
+            _ => None,
         }
     }
 
@@ -298,15 +319,9 @@ impl Error {
     /// let text = format!(in alloc; "{file}:{line}: {path}: {}", error.words())?;
     /// ```
     pub fn words(&self) -> Words<'_>
-        ensures text { option_copied result.text ≡ text_of self.now }
-        ensures what { option_copied result.what ≡ what_of self.now }
-        ensures pointer { result.pointer.now ≡ pointer_of self.now }
+        ensures { result.error.now ≡ self.now }
     {
-        Words {
-            text: self.text(),
-            what: self.what(),
-            pointer: self.pointer(),
-        }
+        Words { error: self }
     }
 
     /// The line and the column: of the place, or of the text's own error.
@@ -332,20 +347,18 @@ impl Error {
                     inner: Inner::Boxed(report),
                 }
             }
-            Inner::Text(located) => Error {
-                inner: Inner::Text(located),
-            },
-            Inner::Memory => Error::MEMORY,
+            inner => Error { inner },
         }
     }
 
+    /// The kind of the `io::Error` that it becomes.
     fn io_kind(&self) -> ErrorKind
-        ensures { result ≡ kind_of (text_of self.now) (what_of self.now) }
+        ensures { result ≡ kind_of self.now }
     {
-        match (self.text(), self.what()) {
-            (Some(error), _) => error.io_kind(),
-            (None, None) => ErrorKind::OutOfMemory,
-            (None, Some(_)) => ErrorKind::InvalidData,
+        match &self.inner {
+            Inner::Memory => ErrorKind::OutOfMemory,
+            Inner::Text(located) => located.error.io_kind(),
+            Inner::NotANumber | Inner::Boxed(_) => ErrorKind::InvalidData,
         }
     }
 }
@@ -383,6 +396,7 @@ impl Clone for Error {
     fn clone(&self) -> Result<Error, AllocError> {
         let inner = match &self.inner {
             Inner::Memory => Inner::Memory,
+            Inner::NotANumber => Inner::NotANumber,
             Inner::Text(located) => Inner::Text(LocatedError {
                 error: copied(&located.error)?,
                 place: located.place,
@@ -466,7 +480,7 @@ impl<T: Drop> From<AllocFailed<T>> for Error {
 /// So that `?` works in a `main` that returns an `io::Result`. The kind is that of the text's error,
 /// `OutOfMemory`, or `InvalidData`. Of a long message the end is left out.
 impl From<Error> for io::Error {
-    ghost from_gives = { λ e i. error_kind i ≡ kind_of (text_of e) (what_of e) };
+    ghost from_gives = { λ e i. error_kind i ≡ kind_of e };
 
     fn from(error: Error) -> io::Error {
         io_error(error.io_kind(), &error)

@@ -3,7 +3,7 @@
 
 ghost use Rattle.std.specs.Prelude.{◌≡◌, Some};
 ghost use Rattle.std.specs.Fmt.{WritesOnOk};
-ghost use Rattle.jzon_pointer.specs.Errors.{cause_text, expected_text, found_text, hidden_found, member_text, number_shown};
+ghost use Rattle.jzon_pointer.specs.Errors.{cause_text, expected_text, fixed_text, found_text, hidden_found, member_text, number_shown};
 
 use super::words::Count;
 use crate::Primitive;
@@ -133,12 +133,7 @@ impl fmt::Display for Expected {
             Expected::I64 => {
                 f.write_str("an integer from -9223372036854775808 to 9223372036854775807")
             }
-            Expected::Fixed(0) => f.write_str("an integer"),
-            Expected::Fixed(1) => f.write_str("a number with at most 1 digit after the point"),
-            Expected::Fixed(point) => {
-                let point = Count(usize::from(*point));
-                write!(f, "a number with at most {point} digits after the point")
-            }
+            Expected::Fixed(point) => show_fixed(f, *point),
             Expected::AtMost(1) => f.write_str("an array of at most 1 element"),
             Expected::AtMost(most) => { write!(f, "an array of at most {} elements", Count(*most)) }
             Expected::Above(1) => f.write_str("an array of more than 1 element"),
@@ -146,6 +141,20 @@ impl fmt::Display for Expected {
             Expected::Exactly(1) => f.write_str("an array of 1 element"),
             Expected::Exactly(count) => write!(f, "an array of {} elements", Count(*count)),
             Expected::Other(words) => write!(f, "{}", ShownWords(*words)),
+        }
+    }
+}
+
+/// A number with at most this many digits after the point.
+fn show_fixed<W: fmt::Write>(f: &mut fmt::Formatter<W>, point: u16) -> fmt::Result
+    ensures { WritesOnOk W.write_str_gives f.old result (fixed_text point) f.new }
+{
+    match point {
+        0 => f.write_str("an integer"),
+        1 => f.write_str("a number with at most 1 digit after the point"),
+        _ => {
+            let point = Count(usize::from(point));
+            write!(f, "a number with at most {point} digits after the point")
         }
     }
 }

@@ -2,17 +2,17 @@
 
 ghost use Rattle.std.specs.Prelude.{◌≡◌, Some};
 ghost use Rattle.std.specs.Fmt.{WritesOnOk};
-ghost use Rattle.std.specs.Option.{option_copied};
 ghost use Rattle.jzon_pointer.specs.Errors.{count_text, at_text, in_member_text, in_operation_text, lost_text, pointer_words, text_words, what_words, words_text};
 ghost use Rattle.jzon_pointer.specs.Shown.{place_text};
 
-use super::{Member, What};
+use super::{Error, Inner, Member, What};
 use crate::pointer::{parent, token};
 use crate::shown::{ShownPointer, ShownToken, ShownWords, show_char, show_names, show_place};
 use crate::{PointerError, Reason};
 use std::fmt;
 
-/// A number that a `usize` has.
+/// A number in a message. A clause knows no range of a number inside an `Error`, so `count_text`
+/// shows only one that fits a `usize`, as each does: then each part is of a bounded length.
 #[derive(Clone, Copy)]
 pub struct Count(pub usize);
 
@@ -85,19 +85,18 @@ impl fmt::Display for Position {
 /// The words of an error, as `Error::words` returns them: one line of at most 600 bytes.
 #[derive(Clone, Copy)]
 pub struct Words<'a> {
-    pub(super) text: Option<&'a jzon::Error>,
-    pub(super) what: Option<&'a What>,
-    pub(super) pointer: &'a str,
+    pub(super) error: &'a Error,
 }
 
 impl fmt::Display for Words<'_> {
-    ghost output = { λ w. Some (words_text (option_copied w.text) (option_copied w.what) w.pointer.now) };
+    ghost output = { λ w. Some (words_text w.error.now) };
 
     fn fmt<W: fmt::Write>(&self, f: &mut fmt::Formatter<W>) -> fmt::Result {
-        match (self.text, self.what) {
-            (Some(error), _) => show_text_words(f, error),
-            (None, Some(what)) => show_what(f, what, self.pointer),
-            (None, None) => f.write_str("Out of memory"),
+        match &self.error.inner {
+            Inner::Memory => f.write_str("Out of memory"),
+            Inner::NotANumber => f.write_str("not a number"),
+            Inner::Text(located) => show_text_words(f, &located.error),
+            Inner::Boxed(report) => show_what(f, &report.what, report.pointer.as_str()),
         }
     }
 }
