@@ -1,5 +1,5 @@
 -- Which value of a text a pointer names (RFC 6901, section 4), by the tree that the text spells, and where it stands.
-use Rattle.std.specs.Prelude.{◌≡◌, ⊤, take, drop, chars, map, ℕ, zero, suc, List, [], ◌∷◌, ◌++◌, Option, None, Some}
+use Rattle.std.specs.Prelude.{◌≡◌, ⊤, take, drop, chars, map, ℕ, zero, suc, List, [], ◌∷◌, ◌++◌, Option, None, Some, Bool, false, ◌==◌}
 use Rattle.std.specs.Prelude.{if◌then◌else◌, option_and_then, option_map, encode_utf8_all}
 use Rattle.std.specs.Result.{result_ok}
 use Rattle.std.specs.Str.{IsCharBoundary}
@@ -86,6 +86,11 @@ pointed d pointer = option_and_then (λ ts. named_in ts (unnamed d.node d.after)
 abbrev pub IsMeant : List ℕ → Type 0
 IsMeant pointer = (d : Document)
     → option_map (λ p. meaning p.node) (pointed d pointer) ≡ result_ok (value_at (meaning d.node) pointer)
+
+-- whether a pointer begins with a slash, so that it has a token
+abbrev pub has_slash : List ℕ → Bool
+has_slash [] = false
+has_slash (c ∷ cs) = c == 47
 
 -- the place of a character or of the end of a text
 abbrev pub IsPlaceIn : List ℕ → Place → Type 0

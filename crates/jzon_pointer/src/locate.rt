@@ -6,12 +6,12 @@
 //! `Walk::find`, `find_element`, `find_member` and `pass_entry` call one another, once for each token;
 //! proofs/locate/Walk/+walk says what gets smaller: the number of tokens that are left.
 
-ghost use Rattle.std.specs.Prelude.{◌≡◌, ◌<◌, ◌≤◌, ◌+◌, ◌^◌, ◌∷◌, ◌++◌, [], List, ℕ, drop, length, chars, false, true, IfErr, IfOk, IfSome, Ok, map, None, option_map, Some, slice_index};
+ghost use Rattle.std.specs.Prelude.{◌≡◌, ◌<◌, ◌≤◌, ◌+◌, ◌^◌, ◌∷◌, ◌++◌, [], List, ℕ, drop, length, chars, false, true, IfErr, IfOk, IfSome, IsOk, Ok, map, None, option_map, Some, slice_index};
 ghost use Rattle.jzon_base.specs.declared.error.Error.TheVariants.{OutOfMemory};
 ghost use Rattle.jzon.specs.Fault.{Parses};
 ghost use Rattle.jzon.specs.Grammar.{Document};
 ghost use Rattle.jzon.specs.Writing.{is_whitespace};
-ghost use Rattle.jzon_pointer.specs.Locate.{IsMeant, IsPlaceIn, IsPlaceOf, pointed, value_text};
+ghost use Rattle.jzon_pointer.specs.Locate.{has_slash, IsMeant, IsPlaceIn, IsPlaceOf, pointed, value_text};
 ghost use Rattle.jzon_pointer.specs.Private.Walk.{EndsAfter, Finds, IsSpotOf, NamesQuoted, Passes, ReadsElement, ReadsEntry, ReadsKey, after_byte, after_string, after_whitespace, depth, is_memory, skim, string_rest};
 ghost use Rattle.jzon_pointer.specs.Pointer.{index_named, names, tokens_of};
 ghost use Rattle.jzon_pointer.specs.declared.locate.Scan.{Scan};
@@ -79,7 +79,8 @@ enum Scan {
 ///
 /// Takes time for the length of the text and of the pointer, whatever they hold; by a strict reading,
 /// which accepts no repeated key, the text is read only up to the place. Memory is taken for the
-/// pointer's tokens, and for one key with an escape at a time: the only error is `OutOfMemory`.
+/// pointer's tokens, and for one key with an escape at a time: the only error is `OutOfMemory`, and
+/// none if the pointer is empty or begins with no slash.
 ///
 /// `/a/1` in `{"a": [1, true]}` is at offset 10, in line 1 and column 11.
 #[tactic(auto, using(crate::proofs::LocateMeaning::is_meant))]
@@ -93,6 +94,7 @@ pub fn value_in(
     ensures named { IfOk result (λ found. (d : Document) → Parses reading.now (chars text.now) d
         → IsPlaceOf text.now value_text found (pointed d pointer.now)) }
     ensures memory { IfErr result (λ e. e ≡ OutOfMemory) }
+    ensures free { has_slash pointer.now ≡ false → IsOk result }
     ensures meant { IsMeant pointer.now }
 {
     match spot_in(alloc, text, pointer, reading)? {
@@ -113,6 +115,7 @@ pub fn key_in(
     ensures named { IfOk result (λ found. (d : Document) → Parses reading.now (chars text.now) d
         → IsPlaceOf text.now (λ p. p.from) found (pointed d pointer.now)) }
     ensures memory { IfErr result (λ e. e ≡ OutOfMemory) }
+    ensures free { has_slash pointer.now ≡ false → IsOk result }
 {
     match spot_in(alloc, text, pointer, reading)? {
         Some(spot) => Ok(Place::at(text, spot.name)),
@@ -130,6 +133,7 @@ fn spot_in(
     ensures named { IfOk result (λ found. (d : Document) → Parses reading.now (chars text.now) d
         → IsSpotOf text.now found (pointed d pointer.now)) }
     ensures memory { IfErr result (λ e. e ≡ OutOfMemory) }
+    ensures free { has_slash pointer.now ≡ false → IsOk result }
 {
     let Some(tokens) = tokens_in(alloc, pointer)? else {
         return Ok(None);
@@ -151,8 +155,9 @@ fn spot_in(
 
 /// The tokens of a pointer, or `None` if its text isn't empty and begins with no slash.
 fn tokens_in<'a>(alloc: Global, pointer: &'a str) -> Result<Option<Vec<&'a str>>, AllocError>
-    ensures { IfOk result (λ tokens. option_map (λ ts. map (λ t. t.now) ts.items) tokens
+    ensures tokens { IfOk result (λ tokens. option_map (λ ts. map (λ t. t.now) ts.items) tokens
         ≡ tokens_of pointer.now) }
+    ensures free { has_slash pointer.now ≡ false → IsOk result }
 {
     let mut tokens = Vec::new(alloc);
     if pointer.is_empty() {
@@ -172,10 +177,12 @@ fn tokens_in<'a>(alloc: Global, pointer: &'a str) -> Result<Option<Vec<&'a str>>
 }
 
 impl Walk<'_> {
-    /// Walks over the value at a spot to what the tokens from this one on name in it.
+    /// Walks over the value at a spot to what the tokens from number `level` on name in it. So many
+    /// containers are around it; if no more may be open, it has nothing inside, and isn't entered.
     #[cycle(walk)]
     fn find(&self, spot: Spot, level: usize) -> jzon::Result<Passed>
         requires { spot.value ≤ length self.now.text.now }
+        ensures free { length self.now.tokens.items ≤ level → IsOk result }
         ensures found { IfOk result (Finds self.now.text.now self.now.unique self.now.depth
             (drop level (map (λ t. t.now) self.now.tokens.items)) level spot) }
         ensures within { IfOk result (λ w. IfSome w.end (λ e. (spot.value ≤ e) × (e ≤ length self.now.text.now))) }
@@ -450,6 +457,8 @@ fn whitespace_end(bytes: &[u8], start: usize) -> usize
     at
 }
 
+/// Whether a byte is whitespace for a reading that isn't strict. A text that a strict one accepts
+/// has the two other characters nowhere, so they needn't be told apart.
 fn is_blank(byte: u8) -> bool
     ensures { result ≡ is_whitespace false byte }
 {

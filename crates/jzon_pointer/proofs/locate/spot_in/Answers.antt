@@ -18,5 +18,5 @@ returns-clause-named c =
     let finds = subst (λ (m : ℕ). Finds c.args.text.now c.args.reading.now.strict m (texts c.in-Some.tokens.items) 0
     (record { name = c.whitespace_end-start.result; value = c.whitespace_end-start.result }) c.in_ok-find.field-0)
     (c.from.ensures ∙ c.depth.ensures.depth) by_keys in
-    spot_found c.args.reading.now text c.args.pointer.now ts start passed c.utf8.text (rw c.in-Some.is at c.in_ok-tokens.ensures)
+    spot_found c.args.reading.now text c.args.pointer.now ts start passed c.utf8.text (rw c.in-Some.is at c.in_ok-tokens.ensures.tokens)
     rest finds
