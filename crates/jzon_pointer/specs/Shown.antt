@@ -9,12 +9,15 @@ use Rattle.jzon.specs.ErrorText.{place_text as position_text}
 use Rattle.jzon.specs.Located.{located_text}
 use Rattle.jzon.specs.declared.located.LocatedError.{LocatedError}
 
--- Whether it is shown by its escape: control characters, and those below U+10000 that aren't seen, end a line, or turn
--- the direction of what follows.
+-- Whether it is shown by its escape: control characters, and those below U+10000 that aren't seen (a space is), end a
+-- line, or turn the direction of what follows.
 abbrev pub is_hidden : ℕ → Bool
 is_hidden c =
-    nat_lt c 32 || (nat_le 127 c && nat_lt c 160) || (c == 173) || (c == 1564) || (nat_le 8203 c && nat_le c 8207)
-    || (nat_le 8232 c && nat_le c 8238) || (nat_le 8288 c && nat_le c 8303) || (c == 65279)
+    nat_lt c 32 || (nat_le 127 c && nat_lt c 160) || (c == 173) || (c == 847) || (c == 1564)
+    || (nat_le 4447 c && nat_le c 4448) || (nat_le 6068 c && nat_le c 6069) || (nat_le 6155 c && nat_le c 6159)
+    || (nat_le 8203 c && nat_le c 8207) || (nat_le 8232 c && nat_le c 8238) || (nat_le 8288 c && nat_le c 8303)
+    || (c == 10240) || (c == 12644) || (nat_le 65024 c && nat_le c 65039) || (c == 65279) || (c == 65440)
+    || (nat_le 65520 c && nat_le c 65531)
 
 -- two hexadecimal digits
 abbrev pub byte_text : ℕ → List ℕ
@@ -24,13 +27,13 @@ byte_text b = digit_char (b / 16) ∷ digit_char (b % 16) ∷ []
 abbrev pub escape_text : ℕ → List ℕ
 escape_text c = codes "\\u" ++ (byte_text (c / 256) ++ byte_text (c % 256))
 
--- whether it is a tag (U+E0000 to U+E007F), which isn't seen either
+-- whether it is a tag, a variation selector, or one of U+E0000 to U+E0FFF that is unassigned and isn't seen either
 abbrev pub is_tag : ℕ → Bool
-is_tag c = nat_le 917504 c && nat_le c 917631
+is_tag c = nat_le 917504 c && nat_le c 921599
 
 -- the escapes of a tag's two surrogates
 abbrev pub tag_text : ℕ → List ℕ
-tag_text c = escape_text 56128 ++ escape_text (c - 917504 + 56320)
+tag_text c = escape_text (56128 + (c - 917504) / 1024) ++ escape_text (56320 + c % 1024)
 
 -- a character in a string of JSON; a hidden one is escaped
 abbrev pub shown_char : ℕ → List ℕ

@@ -64,6 +64,7 @@ fn is_line(text: &str) -> bool
     text.len() <= 200 && are_seen(text)
 }
 
+/// Whether each character of a text is seen.
 fn are_seen(text: &str) -> bool
     ensures { result ≡ list_all is_seen (chars text.now) }
 {
@@ -109,7 +110,8 @@ fn width(ch: char) -> usize
 }
 
 /// The first `front` and the last `back` characters of a text, escaped, with dots between them if
-/// others are there.
+/// others are there. `front` is bounded because `at` saturates: the proof doesn't know that a text
+/// has fewer than 2^64 characters.
 fn show_cut<W: fmt::Write>(
     f: &mut fmt::Formatter<W>,
     text: &str,
@@ -186,6 +188,7 @@ pub fn show_text<W: fmt::Write>(f: &mut fmt::Formatter<W>, text: &str) -> fmt::R
     Ok(())
 }
 
+/// A character in a string of JSON, by its escape if it is hidden.
 pub(crate) fn show_char<W: fmt::Write>(f: &mut fmt::Formatter<W>, ch: char) -> fmt::Result
     ensures { WritesOnOk W.write_str_gives f.old result (shown_char ch) f.new }
 {
@@ -207,32 +210,37 @@ pub fn is_hidden(ch: char) -> bool
     ensures small { result ≡ true → ch < 65536 }
 {
     match ch {
-        '\0'..='\u{1f}' | '\u{7f}'..='\u{9f}' | '\u{ad}' | '\u{61c}' => true,
+        '\0'..='\u{1f}' | '\u{7f}'..='\u{9f}' | '\u{ad}' | '\u{34f}' | '\u{61c}' => true,
+        '\u{115f}'..='\u{1160}' | '\u{17b4}'..='\u{17b5}' | '\u{180b}'..='\u{180f}' => true,
         '\u{200b}'..='\u{200f}' | '\u{2028}'..='\u{202e}' => true,
-        '\u{2060}'..='\u{206f}' | '\u{feff}' => true,
+        '\u{2060}'..='\u{206f}' | '\u{2800}' | '\u{3164}' => true,
+        '\u{fe00}'..='\u{fe0f}' | '\u{feff}' | '\u{ffa0}' | '\u{fff0}'..='\u{fffb}' => true,
         _ => false,
     }
 }
 
-/// Whether a character is a tag (U+E0000 to U+E007F), which isn't seen either.
+/// Whether a character is a tag, a variation selector, or one of U+E0000 to U+E0FFF that is unassigned
+/// and isn't seen either.
 fn is_tag(ch: char) -> bool
     ensures tag { result ≡ is_tag ch }
     ensures above { result ≡ true → 917504 ≤ ch }
-    ensures below { result ≡ true → ch < 917632 }
+    ensures below { result ≡ true → ch < 921600 }
 {
-    matches!(ch, '\u{e0000}'..='\u{e007f}')
+    matches!(ch, '\u{e0000}'..='\u{e0fff}')
 }
 
-/// The two surrogates of a tag.
+/// The two surrogates of a tag: each first one is that of 1,024 characters, from U+E0000 (917,504) on,
+/// and the second counts them.
 fn show_tag<W: fmt::Write>(f: &mut fmt::Formatter<W>, code: u32) -> fmt::Result
     requires above { 917504 ≤ code }
-    requires below { code < 917632 }
+    requires below { code < 921600 }
     ensures { WritesOnOk W.write_str_gives f.old result (tag_text code) f.new }
 {
-    show_escape(f, 0xdb40)?;
-    show_escape(f, code - 917_504 + 0xdc00)
+    show_escape(f, 0xdb40 + (code - 917_504) / 1024)?;
+    show_escape(f, 0xdc00 + code % 1024)
 }
 
+/// The escape of a character below U+10000.
 fn show_escape<W: fmt::Write>(f: &mut fmt::Formatter<W>, code: u32) -> fmt::Result
     requires { code < 65536 }
     ensures { WritesOnOk W.write_str_gives f.old result (escape_text code) f.new }
@@ -242,6 +250,7 @@ fn show_escape<W: fmt::Write>(f: &mut fmt::Formatter<W>, code: u32) -> fmt::Resu
     show_byte(f, code % 256)
 }
 
+/// Two hexadecimal digits.
 fn show_byte<W: fmt::Write>(f: &mut fmt::Formatter<W>, byte: u32) -> fmt::Result
     requires { byte < 256 }
     ensures { WritesOnOk W.write_str_gives f.old result (byte_text byte) f.new }

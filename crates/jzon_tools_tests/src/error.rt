@@ -96,6 +96,26 @@ const TEXTS: &[(&str, &str)] = &[
 const WORDS: &[(&str, &str)] = &[
     ("\"debug\" or a\\b", "\"debug\" or a\\b"),
     ("\"a\u{202e}\"", "\\\"a\\u202e\\\""),
+    (
+        "\u{34f}\u{115f}\u{1160}\u{17b4}",
+        "\\u034f\\u115f\\u1160\\u17b4",
+    ),
+    (
+        "\u{180b}\u{180e}\u{2800}\u{3164}",
+        "\\u180b\\u180e\\u2800\\u3164",
+    ),
+    (
+        "\u{fe0f}\u{ffa0}\u{fff9}\u{fffb}",
+        "\\ufe0f\\uffa0\\ufff9\\ufffb",
+    ),
+    (
+        "\u{e0000}\u{e0100}\u{e0fff}",
+        "\\udb40\\udc00\\udb40\\udd00\\udb43\\udfff",
+    ),
+    (
+        "\u{115e}\u{1161}\u{2801}\u{3165}\u{fe10}\u{fffd}",
+        "\u{115e}\u{1161}\u{2801}\u{3165}\u{fe10}\u{fffd}",
+    ),
 ];
 
 #[test]
