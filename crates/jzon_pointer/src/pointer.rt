@@ -72,7 +72,8 @@ impl fmt::Display for Primitive {
     }
 }
 
-/// What the value is called in which the token that begins here names nothing.
+/// What a message calls the value in which the token that begins at `start` names nothing: the
+/// pointer up to the slash before this token, or words for the empty one.
 pub(crate) fn parent(pointer: &str, start: usize) -> &str
     ensures { result.now ≡ parent_text pointer.now start }
 {

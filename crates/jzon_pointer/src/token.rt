@@ -67,6 +67,8 @@ pub fn index_of(token: &str) -> Option<usize>
     token.parse().ok()
 }
 
+/// Whether a token has the form of an index (RFC 6901, section 4): digits, with no zero before
+/// others. It may be too large for a `usize`.
 pub fn has_index_form(token: &str) -> bool
     ensures { result ≡ is_index token.now }
 {
@@ -74,12 +76,14 @@ pub fn has_index_form(token: &str) -> bool
     !bytes.is_empty() && all_digits(bytes) && !has_leading_zero(bytes)
 }
 
+/// Whether each byte is a digit.
 fn all_digits(token: &[u8]) -> bool
     ensures { result ≡ list_all is_ascii_digit token.now }
 {
     token.iter().all(|byte| byte.is_ascii_digit())
 }
 
+/// Whether a zero is before other bytes.
 fn has_leading_zero(token: &[u8]) -> bool
     ensures { result ≡ (nat_lt 1 (length token.now) && (slice_index token.now 0 == 48)) }
 {
