@@ -6,7 +6,7 @@
 //! are those of doubles: where it has `1e+21` and `1e-7`, a canonical text has `1e21` and
 //! `0.0000001`.
 
-ghost use Rattle.std.specs.Prelude.{◌≡◌, ◌↔◌, ◌⊎◌, [], false, IfErr, IfOk, None, OnOk, Some, chars, codes, map, string_bytes};
+ghost use Rattle.std.specs.Prelude.{◌≡◌, ◌↔◌, ◌⊎◌, [], false, true, IfErr, IfOk, None, OnOk, Some, chars, codes, map, string_bytes};
 ghost use Rattle.std.specs.List.{list_any};
 ghost use Rattle.std.specs.Slice.Iter.{iter_rest};
 ghost use Rattle.jzon.specs.Answer.{IsErrorUnlessMemory};
@@ -15,7 +15,7 @@ ghost use Rattle.jzon.specs.Generator.{Adds, Just};
 ghost use Rattle.jzon.specs.Lawful.{HasNoNan};
 ghost use Rattle.jzon.specs.Value.{array};
 ghost use Rattle.jzon.specs.View.{view, view_object, view_values};
-ghost use Rattle.jzon_pointer.specs.Errors.{memory, what_of, Says};
+ghost use Rattle.jzon_pointer.specs.Errors.{is_not_a_number, memory, not_a_number, Says};
 ghost use Rattle.jzon_pointer.specs.declared.error.What.TheVariants as what;
 ghost use Rattle.jzon_tools.specs.Canonical as canonical;
 ghost use Rattle.jzon_tools.specs.Canonical.{has_nan, have_nan, normal_number, pointed};
@@ -28,13 +28,15 @@ use jzon::codegen::{DumpGenerator, Generator};
 use jzon::number::Number;
 use jzon::object::Object;
 use jzon::{JsonValue, Reading, Result, parse_as};
-use jzon_pointer::error::{Error, What};
+use jzon_pointer::error::Error;
 use sorted_copies::sorted_entries;
 pub use sorted_copies::{sort_keys, sorted};
 use std::alloc::{AllocError, Global};
 use std::{io, slice};
 
-/// The canonical text of a value without NaN.
+/// The canonical text of a value without NaN. After an `Err`, `is_not_a_number` says whether a NaN is
+/// in the value, or memory lacks. The error of a NaN doesn't say where it is: it has the empty pointer,
+/// and no operation, member and place (`[] None None None`).
 ///
 /// ```rust
 /// let mut order = jzon::parse(alloc, r#"{"to": "b", "sum": 1.50, "at": [-0, 1e2]}"#)?;
@@ -44,15 +46,15 @@ use std::{io, slice};
 pub fn canonical_text(alloc: Global, value: &JsonValue) -> std::result::Result<String, Error>
     ensures text { IfOk result (λ text. string_bytes text ≡ canonical.canonical (view value.now)) }
     ensures number { OnOk result (HasNoNan (view value.now)) }
-    ensures error { IfErr result (λ e. (e ≡ memory)
-        ⊎ Says e (Some what.NotANumber) [] None None None) }
-    ensures nan { IfErr result (λ e. what_of e ≡ Some what.NotANumber
-        → HasNoNan (view value.now) → ⊥) }
+    ensures error { IfErr result (λ e. (e ≡ memory) ⊎ ((e ≡ not_a_number)
+        ⊎ Says e (Some what.NotANumber) [] None None None)) }
+    ensures nan { IfErr result (λ e. (is_not_a_number e ≡ true)
+        ↔ (HasNoNan (view value.now) → ⊥)) }
 {
     match text_of(alloc, value) {
         Ok(text) => Ok(text),
         // The writing ends at the first NaN, but also before it, if an allocation fails.
-        Err(_) if has_nan(value) => Err(Error::new(alloc, What::NotANumber)),
+        Err(_) if has_nan(value) => Err(Error::not_a_number(alloc)),
         Err(_) => Err(Error::MEMORY),
     }
 }
@@ -224,7 +226,8 @@ fn normal_number(number: Number) -> Number
     Number::from_parts_unchecked(positive, mantissa, exponent)
 }
 
-/// The mantissa without its last zeros, as far as the exponent, which counts them, has room.
+/// The mantissa without its last zeros, as far as the exponent, which counts them, has room. A
+/// `u64` has at most 20 digits.
 fn stripped(mantissa: u64, exponent: i16) -> (u64, i16)
     ensures { result ≡ canonical.stripped 20 mantissa exponent }
 {

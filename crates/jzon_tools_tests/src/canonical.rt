@@ -143,11 +143,14 @@ fn nan_has_no_text(rt: HostRuntime) -> Tested {
     for (text, keys) in NAN_ROWS {
         let value = with_nan(rt.alloc(), text, keys)?;
         let result = canonical_text(rt.alloc(), &value);
-        let error = Error::new(rt.alloc(), What::NotANumber);
+        let error = Error::not_a_number(rt.alloc());
+        expect(&rt, text, error.is_not_a_number());
+        expect(&rt, text, error.what() == Some(&What::NotANumber));
         expect(&rt, text, result == Err(error));
         let copy = sorted(rt.alloc(), &value)?;
         expect(&rt, text, copy == value);
     }
+    expect(&rt, "memory", !Error::MEMORY.is_not_a_number());
     let error = Error::new(rt.alloc(), What::NotANumber);
     let text = format!(in rt.alloc(); "{error}")?;
     expect_eq(&rt, "Display", text.as_str(), "not a number");
