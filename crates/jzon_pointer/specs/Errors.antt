@@ -234,7 +234,7 @@ cause_text cause.UnknownOp = codes "unknown `op`"
 cause_text cause.TestFailed = codes "test failed"
 cause_text cause.IntoItself = codes "moved into itself"
 cause_text cause.TooDeep = codes "nested too deep"
-cause_text cause.TooLarge = codes "copies too much"
+cause_text cause.TooLarge = codes "copies or moves too much"
 
 -- why the token t of the value at the pointer p names nothing
 abbrev pub lost_text : Reason → List ℕ → List ℕ → List ℕ

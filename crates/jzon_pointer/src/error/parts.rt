@@ -82,7 +82,8 @@ pub enum Cause {
     IntoItself,
     /// What would be put at `path` nests deeper than the limit, with the containers around it.
     TooDeep,
-    /// What would be copied weighs more than what the copies before it left of the limit.
+    /// What would be copied, or moved to a deeper place, weighs more than what those before it left of
+    /// the limit.
     TooLarge,
 }
 
@@ -205,7 +206,7 @@ impl fmt::Display for Cause {
             Cause::TestFailed => f.write_str("test failed"),
             Cause::IntoItself => f.write_str("moved into itself"),
             Cause::TooDeep => f.write_str("nested too deep"),
-            Cause::TooLarge => f.write_str("copies too much"),
+            Cause::TooLarge => f.write_str("copies or moves too much"),
         }
     }
 }
