@@ -252,7 +252,8 @@ fn no_parent(path: &str) -> PointerError
     }
 }
 
-/// Why a pointer names nothing.
+/// Why a pointer names nothing. By the requirement `seek` finds no value, so `WholeValue` isn't
+/// returned.
 fn why_none(value: &JsonValue, path: &str) -> PointerError
     requires { IsErr (value_at (view value.now) path.now) }
     ensures { value_at (view value.now) path.now ≡ Err result }

@@ -142,6 +142,8 @@ fn is_null_at(members: &Object, key: &str) -> bool
     }
 }
 
+/// Merges one member of a patch into an object. If the object has no such key, the value is merged
+/// into null and not cloned, because nulls inside it are dropped too.
 #[cycle(merge)]
 #[tactic(auto, using(crate::proofs::Merges::merges))]
 fn merge_member(

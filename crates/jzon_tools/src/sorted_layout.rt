@@ -63,7 +63,7 @@ fn sorted_positions(alloc: Global, object: &Object) -> std::result::Result<Vec<u
     Ok(positions)
 }
 
-/// The keys of the object.
+/// The keys of the object, in the order of its entries: not sorted.
 fn keys_in_order<'a>(
     alloc: Global,
     object: &'a Object,

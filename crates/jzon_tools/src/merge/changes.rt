@@ -71,6 +71,7 @@ fn members(alloc: Global, from: &Object, to: &Object) -> Result<Option<Object>>
         → NoneMergesInto (view_object from.now) (view_object to.now)) }
     ensures memory { IsOkUnless result Error.OutOfMemory }
 {
+    // The contract of `len` says that no key repeats.
     let _known = from.len().max(to.len());
     let mut patch = removed(alloc, from, to)?;
     for (key, value) in to.iter() {
@@ -161,6 +162,7 @@ fn nested(
     let Some(change) = members(alloc, object_of(old, &none), to)? else {
         return Ok(false);
     };
+    // An empty change keeps an object. In place of any other value it makes an empty object.
     if change.is_empty() && has_object(old) {
         return Ok(true);
     }

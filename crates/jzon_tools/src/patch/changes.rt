@@ -102,6 +102,7 @@ impl Changes {
         ensures path { OnOk result (string_bytes self.new.path ≡ string_bytes self.old.path) }
         ensures memory { IsOkUnless result Error.OutOfMemory }
     {
+        // Also for the proof: the contract of `len` says that no key repeats.
         if from.len().max(to.len()) == 0 {
             return Ok(());
         }
@@ -143,7 +144,9 @@ impl Changes {
         Ok(())
     }
 
-    /// Adds the operations that change the elements of one array to those of another.
+    /// Adds the operations that change the elements of one array to those of another: between the
+    /// equal elements at both ends those that both arrays have are changed, and the others cut or
+    /// added. `cut` or `extend` has nothing to do.
     #[cycle(diff)]
     fn elements(&mut self, from: &[JsonValue], to: &[JsonValue], compared: bool) -> Result<()>
         ensures ok { OnOk result (AddsChanges (string_bytes self.old.path)
@@ -209,7 +212,8 @@ impl Changes {
         Ok(())
     }
 
-    /// Adds the operations that remove the elements from one index to another.
+    /// Adds the operations that remove the elements from one index to another: each at `start`,
+    /// where the next one then is.
     fn cut(&mut self, from: &[JsonValue], to: &[JsonValue], start: usize, end: usize) -> Result<()>
         requires range { (start ≤ end) × (end ≤ length from.now) × (start ≤ length to.now) }
         requires shorter { start < end → length to.now < length from.now }
