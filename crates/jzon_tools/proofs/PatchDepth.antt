@@ -2,16 +2,17 @@
 use Rattle.std.proofs.Common.{◌≡◌, ◌≤◌, ◌+◌, ℕ, List, [], ◌∷◌, Bool, true, false, if◌then◌else◌}
 use Rattle.std.proofs.Common.{Option, None, Some, option_map, option_and_then, refl, subst, arith}
 use Rattle.std.proofs.Common.{codes}
+use Rattle.std.proofs.lemmas.Bool.Decides.{nat_tests}
 use Rattle.std.proofs.lemmas.Option.{none-some, same_Some}
 use Rattle.std.specs.Option.{option_map_or}
 use Rattle.std.specs.Str.{bytes_eq}
 use Rattle.jzon.specs.Same.{same}
 use Rattle.jzon.specs.Value.{Value, nest}
 use Rattle.jzon_pointer.specs.Pointer.{updated_at, removed_at, slashes}
-use Rattle.jzon_tools.specs.Patch.{value_of, entry_of, added_at, moved_at, is_below, tested_at, operand, op_of, operated, operated_by, text_at, depth_by, depth_in}
+use Rattle.jzon_tools.specs.Patch.{value_of, entry_of, added_at, moved_at, is_below, is_deeper, deepened_at, tested_at, operand, op_of, operated, operated_by, text_at, depth_by, depth_in}
 use Rattle.jzon_tools.specs.declared.patch.Op.{Op}
 use Rattle.jzon_tools.specs.declared.patch.Op.TheVariants.{Add, Remove, Replace, Move, Copy, Test}
-use Rattle.jzon_tools.proofs.PointerDepth.{updated_at-nest, inserted_at-nest, removed_at-nest}
+use Rattle.jzon_tools.proofs.PointerDepth.{updated_at-nest, inserted_at-nest, removed_at-nest, value-nest}
 
 -- ---- operations
 
@@ -74,11 +75,27 @@ placing-nest : (h : ℕ) (path : List ℕ) (u : Value) (o : Option Value) (f : V
 placing-nest h path u None f room each is = absurd (none-some u is)
 placing-nest h path u (Some w) f room each is = each w room is
 
+-- to a place that is no deeper, what is moved nests no deeper than before
+deepened-nest_by : (h : ℕ) (v : Value) (from path : List ℕ) (b : Bool) (o : Option Value) → is_deeper path from ≡ b
+    → value_of v from ≡ o → option_map_or (λ w. slashes path + nest w) (if b then o else None) 0 ≤ h → nest v ≤ h
+    → option_map_or (λ w. slashes path + nest w) o 0 ≤ h
+deepened-nest_by h v from path true o deeper at room within = room
+deepened-nest_by h v from path false None deeper at room within = room
+deepened-nest_by h v from path false (Some w) deeper at room within =
+    let le = value-nest v w from at in grind (arith, nat_tests, deeper, le)
+
+deepened-nest : (h : ℕ) (v : Value) (from path : List ℕ)
+    → option_map_or (λ w. slashes path + nest w) (deepened_at v from path) 0 ≤ h → nest v ≤ h
+    → option_map_or (λ w. slashes path + nest w) (value_of v from) 0 ≤ h
+deepened-nest h v from path room within =
+    deepened-nest_by h v from path (is_deeper path from) (value_of v from) refl refl room within
+
 moving-nest : (h : ℕ) (v : Value) (path : List ℕ) (u : Value) (from : Option (List ℕ))
-    → option_map_or (λ w. slashes path + nest w) (option_and_then (value_of v) from) 0 ≤ h → nest v ≤ h
+    → option_map_or (λ w. slashes path + nest w) (option_and_then (λ t. deepened_at v t path) from) 0 ≤ h → nest v ≤ h
     → option_and_then (λ t. moved_at v t path) from ≡ Some u → nest u ≤ h
 moving-nest h v path u None room within is = absurd (none-some u is)
-moving-nest h v path u (Some from) room within is = moved-nest h v from path u room within is
+moving-nest h v path u (Some from) room within is =
+    moved-nest h v from path u (deepened-nest h v from path room within) within is
 
 copying-nest : (h : ℕ) (v : Value) (path : List ℕ) (u : Value) (from : Option (List ℕ))
     → option_map_or (λ w. slashes path + nest w) (option_and_then (value_of v) from) 0 ≤ h → nest v ≤ h

@@ -1,16 +1,20 @@
 -- How deep a value nests after a change at a pointer.
 use Rattle.std.proofs.Common.{◌≡◌, ◌<◌, ◌≤◌, ◌+◌, ℕ, zero, suc, length, List, [], ◌∷◌, Bool, true, false, if◌then◌else◌}
 use Rattle.std.proofs.Common.{Option, None, Some, option_map, option_and_then, slice_set, refl, sym, ap, ◌∙◌, subst, arith, max}
-use Rattle.std.proofs.Common.{◌==◌, ◌++◌, cond, slice_get}
+use Rattle.std.proofs.Common.{◌==◌, ◌++◌, cond, slice_get, Result, Ok, Err}
 use Rattle.std.proofs.lemmas.Option.{none-some, same_Some}
 use Rattle.std.proofs.lemmas.List.Sums.{sum_by-cons}
 use Rattle.std.specs.List.{AllByRecursion, insert, remove}
-use Rattle.std.specs.Option.{option_map_or}
+use Rattle.std.specs.Option.{ok_or, option_map_or}
+use Rattle.std.specs.Result.{result_ok}
 use Rattle.jzon.specs.PairList.{find, put, cut}
 use Rattle.jzon.specs.Value.{Value, Values, ValuePairs, null, boolean, text, number, array, object, list_of_values, list_of_pairs, values_of, pairs_of, nest}
 use Rattle.jzon.proofs.KeptByChanges.{NestsBelow, nests, nest-with_entry, nest-without_entry, nest-without_item, nest-item, nest-found}
 use Rattle.jzon.proofs.ValueLaws.{values_of-list_of_values, pairs_of-list_of_pairs}
 use Rattle.jzon_pointer.specs.Pointer.{index_named, token_key, child_of, with_child, with_new, new_index, without, updated, updated_at, changed, inserted_at, removed_at, tokens_of, tokens_in, tokens_after, slashes}
+use Rattle.jzon_pointer.specs.Pointer.{and_then, found, missing, value_at}
+use Rattle.jzon_pointer.specs.declared.pointer.PointerError.{PointerError}
+use Rattle.jzon_pointer.specs.declared.pointer.PointerError.TheVariants.{NoSlash}
 
 -- ---- lists
 
@@ -192,6 +196,22 @@ removed-nest h v (t ∷ []) u within is = without-nest h v t u within is
 removed-nest h v (t ∷ s ∷ ts) u within is =
     removed-nest_by h v t s ts u (child_of v t) (λ g c y. removed-nest g c (s ∷ ts) y) refl within is
 
+-- what tokens lead to is less deep by one for each of them
+found-nest_by : (j : ℕ) (v w : Value) (t : List ℕ) (ts : List (List ℕ)) (x : PointerError) (o : Option Value)
+    → ((c : Value) → found j c ts ≡ Ok w → length ts + nest w ≤ nest c) → child_of v t ≡ o
+    → and_then (λ c. found j c ts) (ok_or o x) ≡ Ok w → suc (length ts) + nest w ≤ nest v
+found-nest_by j v w t ts x None ih at is = absurd (cc)
+found-nest_by j v w t ts x (Some c) ih at is =
+    let less = child-nest v t c at in
+    let le = ih c is in omega (arith, less, le)
+
+found-nest : (i : ℕ) (v w : Value) (ts : List (List ℕ)) → found i v ts ≡ Ok w → length ts + nest w ≤ nest v
+found-nest i v w [] is =
+    let whole = ap nest (same_Some v w (ap result_ok is)) in omega (arith, whole)
+found-nest i v w (t ∷ ts) is =
+    found-nest_by (suc (i + length t)) v w t ts (missing i v t) (child_of v t)
+    (λ c e. found-nest (suc (i + length t)) c w ts e) refl is
+
 -- ---- along a pointer
 
 tokens-counted_by : (b : Bool) (t : List ℕ) (c : ℕ) (cs : List ℕ) → c == 47 ≡ b
@@ -219,6 +239,23 @@ tokens-slashes_by true c cs ts at is =
 tokens-slashes : (path : List ℕ) (ts : List (List ℕ)) → tokens_of path ≡ Some ts → length ts ≡ slashes path
 tokens-slashes [] ts is = ap length (sym (same_Some [] ts is))
 tokens-slashes (c ∷ cs) ts is = tokens-slashes_by (c == 47) c cs ts refl is
+
+value-nest_by : (v w : Value) (path : List ℕ) (o : Option (List (List ℕ))) → tokens_of path ≡ o
+    → and_then (found 1 v) (ok_or o NoSlash) ≡ Ok w → slashes path + nest w ≤ nest v
+value-nest_by v w path None at is = absurd (cc)
+value-nest_by v w path (Some ts) at is =
+    let many = tokens-slashes path ts at in
+    let le = found-nest 1 v w ts is in omega (arith, many, le)
+
+value-nest_ok : (v w : Value) (path : List ℕ) (r : Result Value PointerError) → value_at v path ≡ r
+    → result_ok r ≡ Some w → slashes path + nest w ≤ nest v
+value-nest_ok v w path (Ok x) at is =
+    value-nest_by v w path (tokens_of path) refl (at ∙ ap Ok (same_Some x w is))
+value-nest_ok v w path (Err e) at is = absurd (none-some w is)
+
+-- what a pointer names is less deep by one for each of its tokens
+pub value-nest : (v w : Value) (path : List ℕ) → result_ok (value_at v path) ≡ Some w → slashes path + nest w ≤ nest v
+value-nest v w path is = value-nest_ok v w path (value_at v path) refl is
 
 updated_at-nest_by : (h : ℕ) (w v : Value) (path : List ℕ) (u : Value) (o : Option (List (List ℕ)))
     → tokens_of path ≡ o → slashes path + nest w ≤ h → nest v ≤ h

@@ -108,23 +108,36 @@ applied _ v = None
 
 -- ---- limits
 
--- what an operation with this meaning puts at its `path`
-abbrev pub placed_by : Op → Value → Value → Option Value
-placed_by Add op v = operand op
-placed_by Remove op v = None
-placed_by Replace op v = operand op
-placed_by Move op v = option_and_then (value_of v) (text_at (codes "from") op)
-placed_by Copy op v = option_and_then (value_of v) (text_at (codes "from") op)
-placed_by Test op v = None
+-- whether a pointer has more tokens than another one
+abbrev pub is_deeper : List ℕ → List ℕ → Bool
+is_deeper path from = nat_lt (slashes from) (slashes path)
+
+-- what `from` names, if `path` is deeper: elsewhere it nests no deeper than it did
+abbrev pub deepened_at : Value → List ℕ → List ℕ → Option Value
+deepened_at v from path = if is_deeper path from then value_of v from else None
+
+-- what an operation with this meaning puts at its `path`, but for a move to a place that is no deeper
+abbrev pub placed_by : Op → List ℕ → Value → Value → Option Value
+placed_by Add path op v = operand op
+placed_by Remove path op v = None
+placed_by Replace path op v = operand op
+placed_by Move path op v = option_and_then (λ from. deepened_at v from path) (text_at (codes "from") op)
+placed_by Copy path op v = option_and_then (value_of v) (text_at (codes "from") op)
+placed_by Test path op v = None
 
 -- how many containers nest there, with those around it: what it puts is within one for each token
 abbrev pub depth_by : Op → List ℕ → Value → Value → ℕ
-depth_by o path op v = option_map_or (λ w. slashes path + nest w) (placed_by o op v) 0
+depth_by o path op v = option_map_or (λ w. slashes path + nest w) (placed_by o path op v) 0
 
 -- what it copies from elsewhere in the value
 abbrev pub copied_by : Op → Value → Value → ℕ
-copied_by Copy op v = option_map_or weight (placed_by Copy op v) 0
+copied_by Copy op v = option_map_or weight (option_and_then (value_of v) (text_at (codes "from") op)) 0
 copied_by _ op v = 0
+
+-- what it moves to a deeper place
+abbrev pub moved_by : Op → List ℕ → Value → Value → ℕ
+moved_by Move path op v = option_map_or weight (placed_by Move path op v) 0
+moved_by _ path op v = 0
 
 -- the same of an operation as it stands in a patch; 0 if it has no meaning or no `path`
 abbrev pub depth_in : Value → Value → ℕ
@@ -134,13 +147,19 @@ depth_in op v = option_map_or (λ o. option_map_or (λ path. depth_by o path op 
 abbrev pub copied_in : Value → Value → ℕ
 copied_in op v = option_map_or (λ o. copied_by o op v) (op_of op) 0
 
+-- what it moves to a deeper place
+abbrev pub moved_in : Value → Value → ℕ
+moved_in op v = option_map_or (λ o. option_map_or (λ path. moved_by o path op v) (text_at (codes "path") op) 0) (op_of op) 0
+
 -- whether an operation keeps within limits
 abbrev pub is_within : Limits → Value → Value → Bool
-is_within l op v = nat_le (depth_in op v) l.depth && nat_le (copied_in op v) l.copied
+is_within l op v =
+    nat_le (depth_in op v) l.depth && nat_le (copied_in op v) l.copied && nat_le (moved_in op v) l.moved
 
 -- what an operation leaves of limits
 abbrev pub left_after : Limits → Value → Value → Limits
-left_after l op v = record { depth = l.depth; copied = l.copied - copied_in op v }
+left_after l op v =
+    record { depth = l.depth; copied = l.copied - copied_in op v; moved = l.moved - moved_in op v }
 
 -- v after an operation that keeps within limits
 abbrev pub operated_within : Limits → Value → Value → Option Value
@@ -158,7 +177,7 @@ applied_within l _ v = None
 
 -- the limits of `apply`
 abbrev pub usual : Limits
-usual = record { depth = 512; copied = 16777216 }
+usual = record { depth = 512; copied = 16777216; moved = 67108864 }
 
 -- an operation that can't be done within what is left of limits, its number, and the value before it
 pub record Undone : Type 0 where
@@ -262,7 +281,7 @@ IsCause (Operation UnknownOp) l op v = (s : List ℕ) × (text_at (codes "op") o
 IsCause (Operation TestFailed) l op v = TestFails op v
 IsCause (Operation IntoItself) l op v = MovesIntoItself op
 IsCause (Operation TooDeep) l op v = l.depth < depth_in op v
-IsCause (Operation TooLarge) l op v = l.copied < copied_in op v
+IsCause (Operation TooLarge) l op v = (l.copied < copied_in op v) ⊎ (l.moved < moved_in op v)
 IsCause (Pointer m error) l op v =
     (path : List ℕ) × (u : Value) × IsLookup m path u op v × (entry_at u path ≡ Err error)
     × (path ≡ [] → Takes m op)

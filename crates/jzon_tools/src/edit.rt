@@ -107,8 +107,15 @@ pub fn insert(alloc: Global, value: &mut JsonValue, path: &str, new: JsonValue) 
 pub fn nests_within(path: &str, new: &JsonValue, depth: usize) -> bool
     ensures { result ≡ nat_le (slashes path.now + nest (view new.now)) depth }
 {
-    let around = path.bytes().filter(|byte| *byte == b'/').count();
+    let around = slashes(path);
     around <= depth && weight::nests_within(new, depth - around)
+}
+
+/// How many tokens a pointer has: so many containers are around what it names.
+pub(crate) fn slashes(path: &str) -> usize
+    ensures { result ≡ slashes path.now }
+{
+    path.bytes().filter(|byte| *byte == b'/').count()
 }
 
 /// Removes the entry or the element that a pointer names, and returns its value.

@@ -11,8 +11,9 @@ ghost use Rattle.std.specs.Prelude.{◌≡◌, ◌+◌, ◌<◌, ◌≤◌, max,
 ghost use Rattle.std.specs.Option.{option_map_or};
 ghost use Rattle.jzon.specs.Value.{Value, nest};
 ghost use Rattle.jzon.specs.View.{view};
-ghost use Rattle.jzon_tools.specs.Patch.{added_at, applied, applied_within, copied_by, depth_by, entry_of, has_value, is_below, is_within, left_after, moved_at, name_of, operated, operated_by, pointer_in, tested_at, text_at, usual, value_of, IsBackup, IsCause, IsDone, IsErrorOf, IsLookup, IsText, Reports, Takes};
+ghost use Rattle.jzon_tools.specs.Patch.{added_at, applied, applied_within, copied_by, deepened_at, depth_by, entry_of, has_value, is_below, is_deeper, is_within, left_after, moved_at, moved_by, name_of, operated, operated_by, pointer_in, tested_at, text_at, usual, value_of, IsBackup, IsCause, IsDone, IsErrorOf, IsLookup, IsText, Reports, Takes};
 ghost use Rattle.jzon_tools.specs.Patch as meaning;
+ghost use Rattle.jzon_tools.specs.Weight.{weight};
 ghost use Rattle.jzon_pointer.specs.Pointer.{entry_at, removed_at, updated_at, slashes};
 ghost use Rattle.jzon_pointer.specs.declared.error.parts.Cause.TheVariants as causes;
 ghost use Rattle.jzon_pointer.specs.declared.error.parts.Member.TheVariants as members;
@@ -34,17 +35,22 @@ use std::alloc::Global;
 /// bytes may double the value, or its depth.
 #[derive(Clone, Copy, Debug, PartialEq, Eq)]
 pub struct Limits {
-    /// How many non-empty containers may nest at what an operation puts, those around it included.
+    /// How many non-empty containers may nest at what an operation puts, those around it included. A
+    /// move to a place that is no deeper isn't asked: there it nests as deep as before, or less.
     pub depth: usize,
     /// How much all that is copied may weigh: 48 for each value, and the bytes of strings and keys.
     pub copied: usize,
+    /// How much all that is moved to a deeper place may weigh: it is walked, any other move isn't.
+    pub moved: usize,
 }
 
 impl Limits {
-    /// The limits of `apply`: 512 containers, as `jzon::parse` reads back, and copies of 16 MiB.
+    /// The limits of `apply`: 512 containers, as `jzon::parse` reads back, copies of 16 MiB, and moves to
+    /// a deeper place of 64 MiB.
     pub const USUAL: Limits = Limits {
         depth: 512,
         copied: 16_777_216,
+        moved: 67_108_864,
     };
 }
 
@@ -87,8 +93,8 @@ pub fn apply(alloc: Global, value: &mut JsonValue, patch: &JsonValue) -> Result<
 }
 
 /// Applies a patch within these limits. An operation that passes one can't be done, and the cause is
-/// `TooDeep` or `TooLarge`. What is put is walked once more than it is cloned, and of what is copied
-/// no more than the limit.
+/// `TooDeep` or `TooLarge`. What is added or copied is walked before it is cloned, and of what is
+/// moved only what gets to a deeper place.
 ///
 /// ```rust
 /// let limits = Limits {
@@ -271,6 +277,9 @@ fn operate(
         (depth_by op path.now (view operation.now) (view value.old) ≤ left.old.depth) }
     ensures copied { OnOk result
         (left.new.copied + copied_by op (view operation.now) (view value.old) ≡ left.old.copied) }
+    ensures moved { OnOk result
+        (left.new.moved + moved_by op path.now (view operation.now) (view value.old)
+        ≡ left.old.moved) }
     ensures left { OnOk result (left.new.depth ≡ left.old.depth) }
     ensures err { (op ≡ ops.Move → ⊥) → OnErr result (view value.new ≡ view value.old) }
     ensures kept { op ≡ ops.Test → view value.new ≡ view value.old }
@@ -291,13 +300,7 @@ fn operate(
             admit(path, new, left.depth)?;
             replace(value, path, cloned(alloc, new)?)
         }
-        Op::Move => relocate(
-            alloc,
-            value,
-            text(operation, Member::From)?,
-            path,
-            left.depth,
-        ),
+        Op::Move => relocate(alloc, value, text(operation, Member::From)?, path, left),
         Op::Copy => {
             let original = look(value, Member::From, text(operation, Member::From)?)?;
             admit(path, original, left.depth)?;
@@ -403,22 +406,30 @@ fn replace(value: &mut JsonValue, path: &str, new: JsonValue) -> Result<(), Faul
     }
 }
 
-/// Moves a value, if it then nests within the depth.
+/// Moves a value. It is walked if the place is deeper: it may nest too deep there, or weigh too much.
 fn relocate(
     alloc: Global,
     value: &mut JsonValue,
     from: &str,
     path: &str,
-    depth: usize,
+    left: &mut Limits,
 ) -> Result<(), Fault>
     ensures done { IsDone (moved_at (view value.old) from.now path.now) (view value.new) result }
     ensures depth { OnOk result (option_map_or (λ w. slashes path.now + nest w)
-        (value_of (view value.old) from.now) 0 ≤ depth) }
+        (deepened_at (view value.old) from.now path.now) 0 ≤ left.old.depth) }
+    ensures moved { OnOk result (left.new.moved + option_map_or weight
+        (deepened_at (view value.old) from.now path.now) 0 ≡ left.old.moved) }
+    ensures left { OnOk result
+        ((left.new.depth ≡ left.old.depth) × (left.new.copied ≡ left.old.copied)) }
     ensures cause { (op : Value) → meaning.op_of op ≡ Some ops.Move
         → text_at (codes "from") op ≡ Some from.now → text_at (codes "path") op ≡ Some path.now
-        → (l : Within) → l.depth ≡ depth → IfErr result (λ e. IsCause e l op (view value.old)) }
+        → IfErr result (λ e. IsCause e left.old op (view value.old)) }
 {
-    admit(path, look(value, Member::From, from)?, depth)?;
+    let source = look(value, Member::From, from)?;
+    if is_deeper(path, from) {
+        admit(path, source, left.depth)?;
+        left.moved = weigh(source, left.moved).ok_or(Fault::Operation(Cause::TooLarge))?;
+    }
     if from == path {
         return Ok(());
     }
@@ -427,6 +438,13 @@ fn relocate(
     }
     let moved = take(value, Member::From, from)?;
     put(alloc, value, path, moved)
+}
+
+/// Whether a pointer has more tokens than another one.
+fn is_deeper(path: &str, from: &str) -> bool
+    ensures { result ≡ is_deeper path.now from.now }
+{
+    edit::slashes(from) < edit::slashes(path)
 }
 
 /// Whether a pointer leads into what another one names.

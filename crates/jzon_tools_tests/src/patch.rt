@@ -141,8 +141,8 @@ fn refuses_a_member_twice(rt: HostRuntime) {
     );
 }
 
-/// A value, a patch, a depth and a weight, and the result within these limits and after a limit of
-/// one less. What is added isn't counted.
+/// A value, a patch, a depth, a weight of copies and of moves to a deeper place, and the result within
+/// these limits and after a limit of one less. What is added isn't counted.
 const LIMITED: &[(&str, &str, usize, usize, Option<Cause>)] = rows! {
     ("[]", r#"[{"op":"add","path":"/-","value":[[1]]}]"#, 3, 0, None)
     ("[]", r#"[{"op":"add","path":"/-","value":[[1]]}]"#, 2, 0, Some(Cause::TooDeep))
@@ -150,8 +150,13 @@ const LIMITED: &[(&str, &str, usize, usize, Option<Cause>)] = rows! {
     ("[]", r#"[{"op":"add","path":"","value":[{"a":[]}]}]"#, 1, 0, Some(Cause::TooDeep))
     (r#"{"a":{}}"#, r#"[{"op":"replace","path":"/a","value":[1]}]"#, 2, 0, None)
     (r#"{"a":{}}"#, r#"[{"op":"replace","path":"/a","value":[1]}]"#, 1, 0, Some(Cause::TooDeep))
-    (r#"{"a":[1],"b":{}}"#, r#"[{"op":"move","from":"/a","path":"/b/c"}]"#, 3, 0, None)
-    (r#"{"a":[1],"b":{}}"#, r#"[{"op":"move","from":"/a","path":"/b/c"}]"#, 2, 0, Some(Cause::TooDeep))
+    (r#"{"a":[1],"b":{}}"#, r#"[{"op":"move","from":"/a","path":"/b/c"}]"#, 3, 96, None)
+    (r#"{"a":[1],"b":{}}"#, r#"[{"op":"move","from":"/a","path":"/b/c"}]"#, 2, 96, Some(Cause::TooDeep))
+    (r#"{"a":[1],"b":{}}"#, r#"[{"op":"move","from":"/a","path":"/b/c"}]"#, 3, 95, Some(Cause::TooLarge))
+    (r#"{"a":"xy","b":{}}"#, r#"[{"op":"move","from":"/a","path":"/b/c"},{"op":"move","from":"/b/c","path":"/a"},{"op":"move","from":"/a","path":"/b/c"}]"#, 9, 100, None)
+    (r#"{"a":[1]}"#, r#"[{"op":"move","from":"/a","path":"/b"}]"#, 0, 0, None)
+    (r#"{"a":{"b":[1]}}"#, r#"[{"op":"move","from":"/a/b","path":"/b"}]"#, 0, 0, None)
+    (r#"{"a":{"b":[1]}}"#, r#"[{"op":"move","from":"/a/b","path":""}]"#, 0, 0, None)
     (r#"{"a":[1]}"#, r#"[{"op":"copy","from":"","path":"/b"}]"#, 3, 145, None)
     (r#"{"a":[1]}"#, r#"[{"op":"copy","from":"","path":"/b"}]"#, 2, 145, Some(Cause::TooDeep))
     (r#"{"a":[1]}"#, r#"[{"op":"copy","from":"","path":"/b"}]"#, 3, 144, Some(Cause::TooLarge))
@@ -162,12 +167,13 @@ const LIMITED: &[(&str, &str, usize, usize, Option<Cause>)] = rows! {
 
 #[test]
 fn applies_within_limits(rt: HostRuntime) -> Tested {
-    for (before, text, depth, copied, cause) in LIMITED {
+    for (before, text, depth, weight, cause) in LIMITED {
         let mut value = jzon::parse(rt.alloc(), before)?;
         let patch = jzon::parse(rt.alloc(), text)?;
         let limits = Limits {
             depth: *depth,
-            copied: *copied,
+            copied: *weight,
+            moved: *weight,
         };
         let outcome = patch::apply_within(rt.alloc(), &mut value, &patch, &limits);
         expect_eq(&rt, text, outcome.is_ok(), cause.is_none());
@@ -200,6 +206,7 @@ fn stops_copies(rt: HostRuntime) -> Tested {
     }
     expect_dump(&rt, &value, "[1]");
     expect_eq(&rt, copy, Limits::USUAL.copied, 16_777_216);
+    expect_eq(&rt, copy, Limits::USUAL.moved, 67_108_864);
     Ok(())
 }
 
@@ -239,6 +246,7 @@ const WORDS: &[(&str, &str, &str)] = rows! {
     (r#"{"a":{}}"#, r#"[{"op":"move","from":"/a","path":"/a/b"}]"#, "operation 0: /a/b: moved into itself")
     ("[1]", r#"[{"op":"add","path":"/-","value":[[1]]}]"#, "operation 0: /-: nested too deep")
     ("[[1]]", r#"[{"op":"copy","from":"/0","path":"/-"},{"op":"copy","from":"/0","path":"/1"}]"#, "operation 1: /1: copies too much")
+    (r#"{"a":"xyz","b":{}}"#, r#"[{"op":"move","from":"/a","path":"/b/c"},{"op":"move","from":"/b/c","path":"/a"},{"op":"move","from":"/a","path":"/b/c"}]"#, "operation 2: /b/c: copies too much")
     ("{}", r#"[{"op":"copy","from":"x","path":"/b"}]"#, "operation 0: `from`: x: a pointer begins with /")
     ("{}", r#"[{"op":"copy","from":"/x","path":"/b"}]"#, "operation 0: `from`: /x: the whole value has no key \"x\"")
     (r#"{"x":5}"#, r#"[{"op":"copy","from":"/x","path":"/b"},{"op":"test","path":"/b/0","value":9}]"#, "operation 1: `path`: /b/0: /b is a number and has no members")
@@ -250,6 +258,7 @@ fn shows_errors(rt: HostRuntime) -> Tested {
     let limits = Limits {
         depth: 2,
         copied: 100,
+        moved: 100,
     };
     for (before, text, words) in WORDS {
         let mut value = jzon::parse(rt.alloc(), before)?;
