@@ -52,7 +52,7 @@ module _ {V : Type 0} where
   key_holds P k v (p ∷ ps) zero all lt e = subst P (ap (λ (q : List ℕ × V). q.0) e) all.0
   key_holds P k v (p ∷ ps) (suc i) all lt e = key_holds P k v ps i all.1 (omega arith) e
 
-  found_there : (k : List ℕ) (v : V) (ps : List (List ℕ × V)) (i : ℕ) → IsDistinct bytes_eq (keys_of ps)
+  pub found_there : (k : List ℕ) (v : V) (ps : List (List ℕ × V)) (i : ℕ) → IsDistinct bytes_eq (keys_of ps)
       → i < length ps → get_or ps i (k, v) ≡ (k, v) → find k ps ≡ Some v
   found_there k v [] i distinct lt e = absurd (omega arith)
   found_there k v (p ∷ ps) zero distinct lt e = ap (λ q. find k (q ∷ ps)) e ∙ find-head k v ps

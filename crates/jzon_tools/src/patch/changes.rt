@@ -3,7 +3,7 @@
 //! `value`, `members`, `member`, `elements`, `changed` and `element` call one another;
 //! proofs/patch/changes/Changes/+diff says what gets smaller: the size of the old value.
 
-ghost use Rattle.std.specs.Prelude.{◌≡◌, ◌≤◌, ◌+◌, ◌-◌, ◌<◌, ◌++◌, ◌∷◌, [], ℕ, IfOk, OnOk, IsOkUnless, drop, length, map, string_bytes, take, true};
+ghost use Rattle.std.specs.Prelude.{◌≡◌, ◌≤◌, ◌+◌, ◌-◌, ◌<◌, ◌++◌, ◌∷◌, [], ℕ, IfOk, OnOk, IsOkUnless, drop, is_some, length, map, string_bytes, take, true};
 ghost use Rattle.std.specs.Fmt.{decimal};
 ghost use Rattle.std.specs.Option.{option_copied};
 ghost use Rattle.jzon.specs.Entries.{entries_of};
@@ -52,6 +52,9 @@ pub fn diff(alloc: Global, old: &JsonValue, new: &JsonValue) -> Result<JsonValue
 /// the number of changes below it.
 const LONGEST_PATH: usize = 512;
 
+/// In objects with more entries each value is a small part, and is first compared as a whole.
+const FEW: usize = 16;
+
 /// The operations so far, and the path of the values that are compared.
 #[derive(Drop)]
 struct Changes {
@@ -61,8 +64,9 @@ struct Changes {
 }
 
 impl Changes {
-    /// Adds the operations that turn the value at the path into the new one. Elements of arrays are
-    /// compared as a whole first, but only once: not if they are parts of values that were compared.
+    /// Adds the operations that turn the value at the path into the new one. Elements of arrays, and
+    /// members of objects of more than `FEW`, are compared as a whole first, but only once: not if they
+    /// are parts of values that were compared.
     #[cycle(diff)]
     fn value(&mut self, old: &JsonValue, new: &JsonValue, compared: bool) -> Result<()>
         ensures ok { OnOk result (AddsChanges (string_bytes self.old.path) (view old.now)
@@ -106,36 +110,50 @@ impl Changes {
         if from.len().max(to.len()) == 0 {
             return Ok(());
         }
+        // Where both look first for a key: only the time depends on it.
+        let mut at = 0usize;
         for key in from.keys() {
-            self.member(key, from, to, compared)?;
+            self.member(key, at, from, to, compared)?;
+            at = at.wrapping_add(1);
         }
+        at = 0;
         for added in to.keys() {
-            if !from.contains_key(added) {
-                self.member(added, from, to, compared)?;
+            let here = at;
+            at = at.wrapping_add(1);
+            if !has(from, here, added) {
+                self.member(added, here, from, to, compared)?;
             }
         }
         Ok(())
     }
 
-    /// Adds the operations that change the entry of a key.
+    /// Adds the operations that change the entry of a key, which is first looked for at an index.
     #[cycle(diff)]
-    fn member(&mut self, key: &str, from: &Object, to: &Object, compared: bool) -> Result<()>
+    fn member(
+        &mut self,
+        key: &str,
+        at: usize,
+        from: &Object,
+        to: &Object,
+        compared: bool,
+    ) -> Result<()>
         ensures ok { OnOk result (AddsMember (string_bytes self.old.path) key.now
             (viewed (entries_of from.now)) (viewed (entries_of to.now))
             (operations_of self.old) (operations_of self.new)) }
         ensures path { OnOk result (string_bytes self.new.path ≡ string_bytes self.old.path) }
         ensures memory { IsOkUnless result Error.OutOfMemory }
     {
-        let (old, new) = (from.get(key), to.get(key));
+        let (old, new) = (look(from, at, key), look(to, at, key));
+        let compares = !compared && from.len() > FEW;
         if let (Some(old), Some(new)) = (old, new) {
-            if is_primitive(new) && old == new {
+            if (compares || is_primitive(new)) && old == new {
                 return Ok(());
             }
         }
         let length = self.path.len();
         push_token(&mut self.path, key)?;
         match (old, new) {
-            (Some(old), Some(new)) => self.value(old, new, compared)?,
+            (Some(old), Some(new)) => self.value(old, new, compared || compares)?,
             (None, Some(new)) => self.add(new)?,
             (Some(_old), None) => self.remove()?,
             (None, None) => {}
@@ -278,6 +296,28 @@ impl Changes {
         self.operations.push(operation)?;
         Ok(())
     }
+}
+
+/// The value of a key, which is compared with the key at an index before it is looked up: objects
+/// mostly have their keys in one order.
+fn look<'a>(object: &'a Object, index: usize, key: &str) -> Option<&'a JsonValue>
+    ensures { option_copied result ≡ find key.now (entries_of object.now) }
+{
+    // The contract of `len` says that no key repeats.
+    let _known = object.len();
+    if let Some((there, value)) = object.get_index(index) {
+        if there == key {
+            return Some(value);
+        }
+    }
+    object.get(key)
+}
+
+/// Whether the object has the key, which is looked for in the same way.
+fn has(object: &Object, index: usize, key: &str) -> bool
+    ensures { result ≡ is_some (find key.now (entries_of object.now)) }
+{
+    look(object, index, key).is_some()
 }
 
 /// How many elements at the beginning, and after them at the end, are equal. None are looked for in

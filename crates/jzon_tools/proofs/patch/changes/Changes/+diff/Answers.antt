@@ -124,9 +124,9 @@ member-returns-then-eq-clause-ok t c =
     let all = operations_of c.args.self.now in
     member-kept (string_bytes c.args.self.now.path) k F T all all
     (ap (λ o. same_at o (find k T))
-    (seen k (entries_of c.args.from.now) (Some u) (sym (ap option_copied c.in-Some-Some.is-0) ∙ c.get-old.ensures))
+    (seen k (entries_of c.args.from.now) (Some u) (sym (ap option_copied c.in-Some-Some.is-0) ∙ c.look-old.ensures))
     ∙ ap (same_at (Some (view u)))
-    (seen k (entries_of c.args.to.now) (Some v) (sym (ap option_copied c.in-Some-Some.is-1) ∙ c.get-new.ensures))
+    (seen k (entries_of c.args.to.now) (Some v) (sym (ap option_copied c.in-Some-Some.is-1) ∙ c.look-new.ensures))
     ∙ sym c.eq.ensures ∙ c.if-eq.true) refl
 
 pub member-value-requires : goal.member-value-requires
@@ -134,7 +134,7 @@ member-value-requires t c =
     let u = c.in-Some-Some-2.old.now in
     let small : size u ≤ largest_under (entries_of c.args.from.now) =
     size-found c.args.key.now (entries_of c.args.from.now) u
-    (sym c.get-old.ensures ∙ ap option_copied c.in-Some-Some-2.is-0) in
+    (sym c.look-old.ensures ∙ ap option_copied c.in-Some-Some-2.is-0) in
     (omega (arith, small), tt)
 
 pub member-returns-clause-ok : goal.member-returns-clause-ok
@@ -156,30 +156,30 @@ member-returns-clause-ok t c =
           let v = w.in-Some-Some-2.new.now in
           subst (λ (l : List Value). AddsMember path k F T before l) (sym (ap operations_of w.self-is))
           (member-changed path k place F T (view u) (view v) before (operations_of w.value.new.self)
-          (seen k from (Some u) (sym (ap option_copied w.in-Some-Some-2.is-0) ∙ c.get-old.ensures))
-          (seen k to (Some v) (sym (ap option_copied w.in-Some-Some-2.is-1) ∙ c.get-new.ensures))
+          (seen k from (Some u) (sym (ap option_copied w.in-Some-Some-2.is-0) ∙ c.look-old.ensures))
+          (seen k to (Some v) (sym (ap option_copied w.in-Some-Some-2.is-1) ∙ c.look-new.ensures))
           below w.in_ok-value-in-Some-Some-2.ensures.ok)
       | member-in-Some-None+in_ok-remove-in-Some-None w ↦
           let u = w.in-Some-None._old.now in
           let op = w.in_ok-remove-in-Some-None.ensures.ok in
           subst (λ (l : List Value). AddsMember path k F T before l) (sym (ap operations_of w.self-is))
           (member-removed path k place F T (view u) op.0 before (operations_of w.remove.new.self)
-          (seen k from (Some u) (sym (ap option_copied w.in-Some-None.is-0) ∙ c.get-old.ensures))
-          (seen k to None (sym (ap option_copied w.in-Some-None.is-1) ∙ c.get-new.ensures))
+          (seen k from (Some u) (sym (ap option_copied w.in-Some-None.is-0) ∙ c.look-old.ensures))
+          (seen k to None (sym (ap option_copied w.in-Some-None.is-1) ∙ c.look-new.ensures))
           below op.1 op.2)
       | member-in-None-Some+in_ok-add-in-None-Some w ↦
           let v = w.in-None-Some.new.now in
           let op = w.in_ok-add-in-None-Some.ensures.ok in
           subst (λ (l : List Value). AddsMember path k F T before l) (sym (ap operations_of w.self-is))
           (member-added path k place F T (view v) op.0 before (operations_of w.add.new.self)
-          (seen k from None (sym (ap option_copied w.in-None-Some.is-0) ∙ c.get-old.ensures))
-          (seen k to (Some v) (sym (ap option_copied w.in-None-Some.is-1) ∙ c.get-new.ensures))
+          (seen k from None (sym (ap option_copied w.in-None-Some.is-0) ∙ c.look-old.ensures))
+          (seen k to (Some v) (sym (ap option_copied w.in-None-Some.is-1) ∙ c.look-new.ensures))
           below op.1 op.2)
       | member-in-None-None w ↦
           member-kept path k F T before after
           (ap (λ o. same_at o (find k T))
-          (seen k from None (sym (ap option_copied w.in-None-None.is-0) ∙ c.get-old.ensures))
-          ∙ ap (same_at None) (seen k to None (sym (ap option_copied w.in-None-None.is-1) ∙ c.get-new.ensures)))
+          (seen k from None (sym (ap option_copied w.in-None-None.is-0) ∙ c.look-old.ensures))
+          ∙ ap (same_at None) (seen k to None (sym (ap option_copied w.in-None-None.is-1) ∙ c.look-new.ensures)))
           (ap operations_of w.self-is)
     ]
 
@@ -248,10 +248,10 @@ members-loop-added-preserved-in-Continue-branch-2 t c =
     let key = c.in-Some-added.added.now in
     let rest = c.next-in-loop-added.new.self in
     let mid = operations_of c.loop-added.self in
-    let after = operations_of c.member-then-not-contains_key.new.self in
+    let after = operations_of c.member-then-not-has.new.self in
     let next : keys ≡ key ∷ rest = c.in-Some-added.ensures.steps in (
       awaited-next path key keys rest F T (operations_of c.args.self.now) mid after next c.loop-added.invariant.1
-          (seen-there key (entries_of c.args.from.now) ∙ sym c.contains_key.ensures ∙ c.if-not-contains_key.true)
+          (seen-there key (entries_of c.args.from.now) ∙ sym c.has.ensures ∙ c.if-not-has.true)
           c.loop-added.invariant.0
           (subst (λ (p : List ℕ). AddsMember p key F T mid after) c.loop-added.invariant.2 c.in_ok-member-2.ensures.ok),
       tail-apart key keys rest next c.loop-added.invariant.1,
@@ -267,7 +267,7 @@ members-loop-added-preserved t c =
     let next : keys ≡ key ∷ rest = c.in-Some-added.ensures.steps in (
       awaited-same (string_bytes c.args.self.now.path) key keys rest F (viewed (entries_of c.args.to.now))
           (operations_of c.args.self.now) (operations_of c.loop-added.self) next
-          (seen-there key (entries_of c.args.from.now) ∙ sym c.contains_key.ensures ∙ c.if-not-contains_key.false)
+          (seen-there key (entries_of c.args.from.now) ∙ sym c.has.ensures ∙ c.if-not-has.false)
           c.loop-added.invariant.0,
       tail-apart key keys rest next c.loop-added.invariant.1,
       c.loop-added.invariant.2,
