@@ -298,6 +298,7 @@ fn change_at<R, F: FnOnce(&mut JsonValue) -> R>(
     }
 }
 
+/// As `change_at`, of the elements of an array: the token names one.
 #[cycle(change)]
 #[tactic(auto, using(jzon_pointer::proofs::PlaceSteps::placing))]
 fn change_element<R, F: FnOnce(&mut JsonValue) -> R>(
@@ -321,6 +322,7 @@ fn change_element<R, F: FnOnce(&mut JsonValue) -> R>(
     change_at(item, rest, change)
 }
 
+/// As `change_at`, of the values of an object: the token names a key.
 #[cycle(change)]
 #[tactic(auto, using(jzon_pointer::proofs::PlaceSteps::placing))]
 fn change_member<R, F: FnOnce(&mut JsonValue) -> R>(
@@ -480,6 +482,7 @@ fn remove_element(items: &mut Vec<JsonValue>, token: &str) -> Option<JsonValue>
     Some(items.remove(index))
 }
 
+/// As `remove_child`, of an object.
 fn remove_member(object: &mut Object, token: &str) -> Option<JsonValue>
     ensures old { option_map view result ≡ child_of (view_object object.old) token.now }
     ensures new { without (view_object object.old) token.now

@@ -275,6 +275,7 @@ impl Changes {
         Ok(())
     }
 
+    /// Adds an operation that adds the new value at the path.
     fn add(&mut self, new: &JsonValue) -> Result<()>
         ensures ok { OnOk result ((op : Value) × Adds (string_bytes self.old.path) (view new.now) op
             × (operations_of self.new ≡ operations_of self.old ++ op ∷ [])) }
@@ -286,6 +287,7 @@ impl Changes {
         Ok(())
     }
 
+    /// Adds an operation that removes what is at the path.
     fn remove(&mut self) -> Result<()>
         ensures ok { OnOk result ((op : Value) × Removes (string_bytes self.old.path) op
             × (operations_of self.new ≡ operations_of self.old ++ op ∷ [])) }
