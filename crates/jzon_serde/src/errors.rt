@@ -92,8 +92,8 @@ impl<'v> TreeFormat<'v> {
         }
     }
 
-    /// A value of the type's own kind that none of its values is. What was read as an integer is out
-    /// of the type's range.
+    /// The error of a key or a value that was read, but is none of the type's. An integer that was
+    /// read is out of the type's range.
     #[cold]
     pub(crate) fn misfit(&self) -> Fault {
         match (self.place.due, self.key, self.last()) {
@@ -127,7 +127,9 @@ impl<'v> TreeFormat<'v> {
         self.missing_key(name).unwrap_or(Fault::MEMORY)
     }
 
-    /// The error of the entry that the field `name` would be read from.
+    /// The error of the entry that the field `name` would be read from. Its key isn't known if the
+    /// names are spelled in several ways, or if the struct was read from an array: then the field
+    /// is named.
     fn missing_key(&self, name: &str) -> Result<Fault, AllocError> {
         let mut pointer = self.pointer()?;
         let Some(case) = self.spelling.case else {

@@ -27,7 +27,7 @@ pub(crate) trait Sink {
 
     fn put_string(&mut self, text: &str) -> Result<(), Fault>;
 
-    /// A key, where one is due. After `flatten_next` only a map may come.
+    /// A key of the innermost map.
     fn put_key(&mut self, key: &str) -> Result<(), Fault>;
 
     /// An element follows.
@@ -122,6 +122,7 @@ impl<S: Sink + Drop> Events<S> {
         Ok(())
     }
 
+    /// A key, where one is due. After `flatten_next` only a map may come.
     #[inline(always)]
     fn put_key(&mut self, key: &str) -> Result<(), Fault> {
         if self.level.due != Due::Key || self.flattens {
@@ -385,7 +386,8 @@ impl<S: Sink + Drop> Serializer for Events<S> {
         Ok(())
     }
 
-    /// What the type's own writer says. The words of `Exact` are kept until the next event.
+    /// What the type's own writer says. The words of `Exact` are no error: the number is kept until
+    /// the next event, and `send_number` drops what is returned.
     fn custom(&self, message: &str) -> Fault {
         if let Some(digits) = message.strip_prefix(EXACT) {
             self.exact.set(number_of(digits));

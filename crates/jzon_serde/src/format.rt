@@ -231,6 +231,8 @@ impl<'v> Format for TreeFormat<'v> {
         Ok(Vec::from_slice(alloc, self.text()?.as_bytes())?)
     }
 
+    /// A number with an exponent is a float. So are `-0`, which would lose its sign as an integer,
+    /// and what is below `i64::MIN`.
     fn peek(&mut self, _input: &[u8]) -> Result<Kind, Fault> {
         if let Due::Key(_, _) = self.place.due {
             return Ok(Kind::Str);
@@ -261,6 +263,7 @@ impl<'v> Format for TreeFormat<'v> {
             self.pass();
             return Ok(true);
         }
+        // The value is read next: an error is no longer its key's.
         self.key = None;
         Ok(false)
     }
@@ -367,6 +370,7 @@ impl<'v> Format for TreeFormat<'v> {
         Ok(())
     }
 
+    /// Until `release`, `leave` keeps the frames that there are now, so that `rewind` finds them.
     fn mark(&mut self) -> Mark<'v> {
         let mark = Mark {
             place: self.place,

@@ -136,7 +136,8 @@ pub fn to_writer<W: Write, T: Serialize>(alloc: Global, out: &mut W, source: &T)
     }
 }
 
-/// A type of all of a value.
+/// Reads a type from the whole of a value. The `Deserializer` gets no input: the format looks at
+/// the value alone.
 fn read<T: DeserializeOwned>(alloc: Global, value: &JsonValue) -> Result<T, Fault> {
     let mut tree = TreeFormat::new(alloc, value);
     let read = T::deserialize_owned(alloc, &mut Deserializer::new(&[], &mut tree))?;

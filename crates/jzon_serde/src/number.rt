@@ -52,7 +52,8 @@ pub(crate) fn number_of(text: &str) -> Option<Number> {
     Some(Number::from_parts_unchecked(positive, mantissa, exponent))
 }
 
-/// The number with these digits after its own.
+/// The number with these digits after its own, or `None` from 2^64 on. Nothing is required of the
+/// bytes, hence `wrapping_sub`; those of a `Numeral` are digits.
 fn with_digits(value: u64, digits: &[u8]) -> Option<u64> {
     let mut value = value;
     for digit in digits {

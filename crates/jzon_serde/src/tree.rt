@@ -142,7 +142,8 @@ impl<'v> TreeFormat<'v> {
         Ok(())
     }
 
-    /// Goes back to the container around this one.
+    /// Goes back to the container around this one, by its `level`: frames that a mark keeps may be
+    /// after it.
     #[inline(always)]
     pub(crate) fn leave(&mut self) {
         let below = self.place.frame.level.saturating_sub(1);

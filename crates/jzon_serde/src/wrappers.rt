@@ -126,6 +126,7 @@ fn send_number<S: Serializer>(number: Number, out: &mut S) -> Result<(), S::Erro
             Err(_) => out.i128(integer),
         };
     }
+    // Nothing is cut: `EXACT` has 19 bytes, and a number at most 29.
     let words = InlineText::<64>::of(EXACT).and(number, 32);
     let _told = out.custom(words.as_str());
     let float: f64 = fast_float::from_parts(!positive, mantissa, i64::from(exponent));
