@@ -1,14 +1,12 @@
 //! What is wrong at a place of a value that is read.
 
-use crate::fault::{At, Fault, found_in, found_text};
-use crate::tree::{Container, Due, Frame, TreeFormat};
+use crate::fault::{At, Fault, Path, found_in, found_text};
+use crate::tree::{Asked, Container, Due, Frame, TreeFormat, case_bit};
 use jzon::JsonValue;
 use jzon::number::Number;
 use jzon_pointer::error::{Expected, Found, What};
-use jzon_pointer::push_token;
-use serde::{Name, NameKind};
+use serde::{Case, Name, NameKind};
 use std::alloc::AllocError;
-use std::fmt::Write;
 use std::result::Result;
 
 impl<'v> TreeFormat<'v> {
@@ -20,31 +18,38 @@ impl<'v> TreeFormat<'v> {
         begun_last(self.frames.get(self.place.frame.level.saturating_sub(1))?)
     }
 
-    /// Its pointer.
-    fn pointer(&self) -> Result<String, AllocError> {
-        let mut around = Vec::new(self.alloc);
-        let mut frame = self.place.frame;
+    /// Where the member is that a frame began last, or a key that is missing in it.
+    fn path_to(&self, innermost: Frame<'v>, key: Option<String>) -> Result<Path, AllocError> {
+        let mut path = Path::new(self.alloc, key);
+        let mut frame = innermost;
         for _ in 0..self.frames.len() {
-            around.push(frame)?;
+            if let Container::Whole(_) = frame.container {
+                break;
+            }
+            if let Some(at) = frame.begun.checked_sub(1) {
+                path.indexes.push(at)?;
+            }
             match self.frames.get(frame.level.saturating_sub(1)) {
                 Some(outer) => frame = *outer,
                 None => break,
             }
         }
-        let mut pointer = String::new(self.alloc);
-        for frame in around.iter().rev() {
-            push_step(&mut pointer, frame)?;
-        }
-        Ok(pointer)
+        path.indexes.reverse();
+        Ok(path)
     }
 
+    /// What is wrong there.
     #[cold]
     #[inline(never)]
-    pub(crate) fn fault(&self, what: What, at: At) -> Fault {
-        self.pointer().map_or(
+    fn fault_to(&self, frame: Frame<'v>, key: Option<String>, what: What, at: At) -> Fault {
+        self.path_to(frame, key).map_or(
             Fault::MEMORY,
-            |pointer| Fault::new(self.alloc, pointer, what, at),
+            |path| Fault::new(self.alloc, path, what, at),
         )
+    }
+
+    pub(crate) fn fault(&self, what: What, at: At) -> Fault {
+        self.fault_to(self.place.frame, None, what, at)
     }
 
     fn wrong(&self, expected: Expected, found: Found, at: At) -> Fault {
@@ -96,12 +101,41 @@ impl<'v> TreeFormat<'v> {
     /// read is out of the type's range.
     #[cold]
     pub(crate) fn misfit(&self) -> Fault {
-        match (self.place.due, self.key, self.last()) {
-            (Due::Value(_), Some(key), _) => self.wrong_key("a key of its type", key),
-            (Due::Nothing, _, Some(JsonValue::Number(_))) => {
-                self.expected(Expected::Other("an integer in the range of its type"))
+        let words = match (self.place.due, self.key, self.last()) {
+            (Due::Value(_), Some(key), _) | (Due::Key(key, _), _, _) => {
+                return self.wrong_key("a key of its type", key);
             }
-            _ => self.expected(Expected::Other("a value of its type")),
+            (Due::Nothing, _, Some(JsonValue::Number(_))) => "an integer in the range of its type",
+            (Due::Value(_), _, _) if self.asked == Asked::Unit => "null",
+            (Due::Value(_), _, _) if self.asked == Asked::Forms => "one of the forms of its type",
+            _ => "a value of its type",
+        };
+        self.expected(Expected::Other(words))
+    }
+
+    /// A value that is no object. An enum asks first of which kind it is, as it takes a string too.
+    #[cold]
+    pub(crate) fn no_object(&self) -> Fault {
+        match self.last() {
+            Some(value) if self.asked == Asked::Kind && value.as_str().is_none() => {
+                self.expected(Expected::Other("a string or an object"))
+            }
+            _ => self.expected(Expected::Object),
+        }
+    }
+
+    /// An array that goes on after a tuple's last part, or ends too early or too late otherwise.
+    #[cold]
+    pub(crate) fn misses_length(&self) -> Fault {
+        let frame = self.place.frame;
+        let around = self.frames.get(frame.level.saturating_sub(1));
+        match (frame.container, self.place.due, around) {
+            (Container::Seq(items), Due::Value(_), Some(around)) => {
+                let expected = Expected::Exactly(frame.begun.saturating_sub(1));
+                let found = Found::Array(items.len());
+                self.fault_to(*around, None, What::Wrong { expected, found }, At::Value)
+            }
+            _ => self.expected(Expected::Other("an array of another length")),
         }
     }
 
@@ -131,16 +165,33 @@ impl<'v> TreeFormat<'v> {
     /// names are spelled in several ways, or if the struct was read from an array: then the field
     /// is named.
     fn missing_key(&self, name: &str) -> Result<Fault, AllocError> {
-        let mut pointer = self.pointer()?;
-        let Some(case) = self.spelling.case else {
+        let Some(key) = self.key_of(name)? else {
             let words = format!(in self.alloc; "the field {name} is missing")?;
             return Ok(self.fault(What::Custom(words), At::Value));
         };
-        let mut key = String::new(self.alloc);
-        case.append(NameKind::Field, name, &mut key)?;
-        push_token(&mut pointer, key.as_str())?;
         let what = What::Missing(Expected::Value);
-        Ok(Fault::new(self.alloc, pointer, what, At::Object))
+        Ok(self.fault_to(self.place.frame, Some(key), what, At::Object))
+    }
+
+    /// How a field of the object that ended last is spelled in each case of its names, if that is
+    /// one way.
+    fn key_of(&self, name: &str) -> Result<Option<String>, AllocError> {
+        let mut key: Option<String> = None;
+        if !self.is_spelled_here() {
+            return Ok(None);
+        }
+        for case in CASES {
+            if self.spelling.cases & case_bit(*case) == 0 {
+                continue;
+            }
+            let mut spelled = String::new(self.alloc);
+            case.append(NameKind::Field, name, &mut spelled)?;
+            if key.as_ref().is_some_and(|before| *before != spelled) {
+                return Ok(None);
+            }
+            key = Some(spelled);
+        }
+        Ok(key)
     }
 
     /// Keeps the error that none of the variants' names is there. A type may have a variant for that.
@@ -163,6 +214,19 @@ impl<'v> TreeFormat<'v> {
         }
     }
 }
+
+/// Each way to spell a name.
+const CASES: &[Case] = &[
+    Case::AsIs,
+    Case::Lower,
+    Case::Upper,
+    Case::Pascal,
+    Case::Camel,
+    Case::Snake,
+    Case::ScreamingSnake,
+    Case::Kebab,
+    Case::ScreamingKebab,
+];
 
 /// How many bytes of names an error has, about: no more are shown.
 const NAMES_ROOM: usize = 200;
@@ -188,23 +252,5 @@ fn begun_last<'v>(frame: &Frame<'v>) -> Option<&'v JsonValue> {
         Container::Whole(value) => Some(value),
         Container::Seq(items) => items.get(at),
         Container::Map(object) => Some(object.get_index(at)?.1),
-    }
-}
-
-/// Appends the step to the member that was begun last, if one was.
-fn push_step(pointer: &mut String, frame: &Frame<'_>) -> Result<(), AllocError> {
-    let Some(at) = frame.begun.checked_sub(1) else {
-        return Ok(());
-    };
-    match frame.container {
-        Container::Whole(_) => Ok(()),
-        Container::Seq(_) => match write!(pointer, "/{at}") {
-            Ok(()) => Ok(()),
-            Err(_refused) => Err(AllocError),
-        },
-        Container::Map(object) => match object.get_index(at) {
-            Some((key, _)) => push_token(pointer, key),
-            None => Ok(()),
-        },
     }
 }

@@ -3,7 +3,7 @@
 
 ghost use Rattle.std.specs.Prelude.{◌≤◌, length, OnOk};
 
-use crate::fault::{At, Fault};
+use crate::fault::{At, Fault, Path};
 use crate::number::number_of;
 use crate::wrappers::EXACT;
 use jzon::number::Number;
@@ -232,7 +232,7 @@ impl<S: Sink + Drop> Events<S> {
 
 #[cold]
 fn unfit(alloc: Global, words: &'static str) -> Fault {
-    Fault::new(alloc, String::new(alloc), What::Said(words), At::Value)
+    Fault::new(alloc, Path::new(alloc, None), What::Said(words), At::Value)
 }
 
 impl<S: Sink + Drop> Serializer for Events<S> {
@@ -395,7 +395,12 @@ impl<S: Sink + Drop> Serializer for Events<S> {
         }
         let alloc = self.alloc;
         match String::from_str(alloc, message) {
-            Ok(words) => Fault::new(alloc, String::new(alloc), What::Custom(words), At::Value),
+            Ok(words) => Fault::new(
+                alloc,
+                Path::new(alloc, None),
+                What::Custom(words),
+                At::Value,
+            ),
             Err(_refused) => Fault::MEMORY,
         }
     }

@@ -4,8 +4,9 @@ ghost use Rattle.jzon_serde.specs.Errors.{IsOfValue, IsOfValueIn};
 
 use jzon::{JsonValue, Reading};
 use jzon_pointer::error::{Error, Found, What};
-use jzon_pointer::locate;
+use jzon_pointer::{locate, push_token};
 use std::alloc::{AllocError, AllocFailed, Global};
+use std::fmt::Write;
 use std::io;
 use std::result::Result;
 
@@ -18,6 +19,16 @@ pub(crate) enum At {
     Key,
     /// The object in which the pointer's last key is missing.
     Object,
+}
+
+/// Where a member is in the value that is read. It has no keys, which may be long: a type may drop
+/// many errors, and read the value in another way.
+#[derive(Drop)]
+pub(crate) struct Path {
+    /// Its index in the container, from the outermost on.
+    pub(crate) indexes: Vec<usize>,
+    /// A key that is missing in it.
+    pub(crate) key: Option<String>,
 }
 
 /// Why a step failed. It is one word, so that a step that succeeds moves none of it.
@@ -38,7 +49,7 @@ enum Detail {
 #[derive(Drop)]
 struct Wrong {
     what: What,
-    pointer: String,
+    path: Path,
     at: At,
 }
 
@@ -49,8 +60,8 @@ impl Fault {
     pub(crate) const MEMORY: Fault = Fault { detail: None };
 
     #[cold]
-    pub(crate) fn new(alloc: Global, pointer: String, what: What, at: At) -> Fault {
-        Fault::boxed(alloc, Detail::Wrong(Wrong { what, pointer, at }))
+    pub(crate) fn new(alloc: Global, path: Path, what: What, at: At) -> Fault {
+        Fault::boxed(alloc, Detail::Wrong(Wrong { what, path, at }))
     }
 
     #[cold]
@@ -72,8 +83,11 @@ impl Fault {
     pub(crate) fn copied(&self, alloc: Global) -> Result<Fault, AllocError> {
         match self.detail.as_ref().map(|detail| &**detail) {
             Some(Detail::Wrong(wrong)) => {
-                let pointer = String::from_str(alloc, wrong.pointer.as_str())?;
-                Ok(Fault::new(alloc, pointer, wrong.what.clone()?, wrong.at))
+                let path = Path {
+                    indexes: Vec::from_slice(alloc, wrong.path.indexes.as_slice())?,
+                    key: None,
+                };
+                Ok(Fault::new(alloc, path, wrong.what.clone()?, wrong.at))
             }
             _ => Err(AllocError),
         }
@@ -87,25 +101,31 @@ impl Fault {
         self.detail.map(Box::into_inner)
     }
 
-    /// The error with its place in the text that was read.
+    /// The error with its place in the text that the value was read from.
     #[cold]
-    pub(crate) fn in_text(self, alloc: Global, text: &str, reading: &Reading) -> Error
+    pub(crate) fn in_text(
+        self,
+        alloc: Global,
+        value: &JsonValue,
+        text: &str,
+        reading: &Reading,
+    ) -> Error
         ensures { IsOfValueIn text.now result }
     {
         match self.into_detail() {
-            Some(Detail::Wrong(wrong)) => wrong.in_text(alloc, text, reading),
+            Some(Detail::Wrong(wrong)) => wrong.in_text(alloc, value, text, reading),
             _ => Error::MEMORY,
         }
     }
 
-    /// The error without a place. A writer that is no caller's writes to memory: it fails if that is
-    /// short.
+    /// The error of reading a value, or of writing, without a place. A writer that is no caller's
+    /// writes to memory: it fails if that is short.
     #[cold]
-    pub(crate) fn into_error(self, alloc: Global) -> Error
+    pub(crate) fn into_error(self, alloc: Global, value: &JsonValue) -> Error
         ensures { IsOfValue result }
     {
         match self.into_detail() {
-            Some(Detail::Wrong(wrong)) => wrong.into_error(alloc),
+            Some(Detail::Wrong(wrong)) => wrong.into_error(alloc, value),
             _ => Error::MEMORY,
         }
     }
@@ -114,7 +134,9 @@ impl Fault {
     #[cold]
     pub(crate) fn into_io(self, alloc: Global) -> io::Error {
         match self.into_detail() {
-            Some(Detail::Wrong(wrong)) => io::Error::from(wrong.into_error(alloc)),
+            Some(Detail::Wrong(wrong)) => {
+                io::Error::from(wrong.into_error(alloc, &JsonValue::Null))
+            }
             Some(Detail::Write(error)) => error,
             None => io::Error::from(Error::MEMORY),
         }
@@ -123,11 +145,11 @@ impl Fault {
 
 impl Wrong {
     /// The error, with its place in the text.
-    fn in_text(self, alloc: Global, text: &str, reading: &Reading) -> Error
+    fn in_text(self, alloc: Global, value: &JsonValue, text: &str, reading: &Reading) -> Error
         ensures { IsOfValueIn text.now result }
     {
         let at = self.at;
-        let error = self.into_error(alloc);
+        let error = self.into_error(alloc, value);
         let found = match at {
             At::Value => locate::value_in(alloc, text, error.pointer(), reading),
             At::Key => locate::key_in(alloc, text, error.pointer(), reading),
@@ -139,11 +161,49 @@ impl Wrong {
         }
     }
 
-    fn into_error(self, alloc: Global) -> Error
+    fn into_error(self, alloc: Global, value: &JsonValue) -> Error
         ensures { IsOfValue result }
     {
-        let Wrong { what, pointer, .. } = self;
-        Error::at_pointer(alloc, pointer.as_str(), what)
+        let Wrong { what, path, .. } = self;
+        match path.pointer(alloc, value) {
+            Ok(pointer) => Error::at_pointer(alloc, pointer.as_str(), what),
+            Err(_refused) => Error::MEMORY,
+        }
+    }
+}
+
+impl Path {
+    pub(crate) fn new(alloc: Global, key: Option<String>) -> Path {
+        Path {
+            indexes: Vec::new(alloc),
+            key,
+        }
+    }
+
+    /// The pointer from a value.
+    fn pointer(&self, alloc: Global, whole: &JsonValue) -> Result<String, AllocError> {
+        let mut pointer = String::new(alloc);
+        let mut value = Some(whole);
+        for at in self.indexes.iter() {
+            value = match value {
+                Some(JsonValue::Array(items)) => {
+                    write!(pointer, "/{at}").map_err(|_| AllocError)?;
+                    items.get(*at)
+                }
+                Some(JsonValue::Object(object)) => match object.get_index(*at) {
+                    Some((key, member)) => {
+                        push_token(&mut pointer, key)?;
+                        Some(member)
+                    }
+                    None => None,
+                },
+                _ => None,
+            };
+        }
+        if let Some(key) = &self.key {
+            push_token(&mut pointer, key.as_str())?;
+        }
+        Ok(pointer)
     }
 }
 

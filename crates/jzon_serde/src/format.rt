@@ -2,7 +2,7 @@
 
 use crate::fault::{At, Fault};
 use crate::number::{may_be_cut, whole};
-use crate::tree::{Container, Due, Mark, TreeFormat};
+use crate::tree::{Asked, Container, Due, Mark, TreeFormat};
 use jzon::JsonValue;
 use jzon::util::print_dec::number_text;
 use jzon_pointer::error::{Expected, What};
@@ -237,6 +237,7 @@ impl<'v> Format for TreeFormat<'v> {
         if let Due::Key(_, _) = self.place.due {
             return Ok(Kind::Str);
         }
+        self.asked = Asked::Kind;
         match self.look()? {
             JsonValue::Null => Ok(Kind::Unit),
             JsonValue::Boolean(_) => Ok(Kind::Bool),
@@ -253,7 +254,16 @@ impl<'v> Format for TreeFormat<'v> {
     }
 
     #[inline(always)]
-    fn take_unit(&mut self, _input: &[u8]) -> Result<bool, Fault> {
+    fn take_unit(&mut self, input: &[u8]) -> Result<bool, Fault> {
+        let is_taken = self.take_none(input)?;
+        if !is_taken {
+            self.asked = Asked::Unit;
+        }
+        Ok(is_taken)
+    }
+
+    #[inline(always)]
+    fn take_none(&mut self, _input: &[u8]) -> Result<bool, Fault> {
         let value = match self.place.due {
             Due::Value(value) => value,
             Due::Key(_, _) => return Ok(false),
@@ -266,11 +276,6 @@ impl<'v> Format for TreeFormat<'v> {
         // The value is read next: an error is no longer its key's.
         self.key = None;
         Ok(false)
-    }
-
-    #[inline(always)]
-    fn take_none(&mut self, input: &[u8]) -> Result<bool, Fault> {
-        self.take_unit(input)
     }
 
     #[inline(always)]
@@ -296,6 +301,7 @@ impl<'v> Format for TreeFormat<'v> {
         };
         self.place.frame.begun = self.place.frame.begun.saturating_add(1);
         self.place.due = Due::Value(item);
+        self.asked = Asked::Nothing;
         Ok(true)
     }
 
@@ -304,7 +310,7 @@ impl<'v> Format for TreeFormat<'v> {
         let due = self.place.due;
         match due {
             Due::Value(JsonValue::Object(object)) => self.enter(Container::Map(object)),
-            _ => Err(self.expected(Expected::Object)),
+            _ => Err(self.no_object()),
         }
     }
 
@@ -318,7 +324,7 @@ impl<'v> Format for TreeFormat<'v> {
             }
             Due::Value(JsonValue::Array(items)) => {
                 self.enter(Container::Seq(items.as_slice()))?;
-                self.spelling.case = None;
+                self.spelling.cases = 0;
                 Ok(true)
             }
             _ => Err(self.expected(Expected::Object)),
@@ -376,8 +382,10 @@ impl<'v> Format for TreeFormat<'v> {
             place: self.place,
             frames: self.frames.len(),
             kept: self.kept,
+            spelling: self.spelling,
         };
         self.kept = mark.frames;
+        self.asked = Asked::Nothing;
         mark
     }
 
@@ -391,6 +399,11 @@ impl<'v> Format for TreeFormat<'v> {
     fn release(&mut self, mark: Mark<'v>) {
         self.kept = mark.kept;
         self.frames.truncate(self.place.frame.level.max(mark.kept));
+        if let Due::Value(_) = self.place.due {
+            // Nothing was read of the value.
+            self.asked = Asked::Forms;
+            self.spelling = mark.spelling;
+        }
     }
 
     fn is_fatal(&self, error: &Fault) -> bool {
@@ -414,7 +427,7 @@ impl<'v> Format for TreeFormat<'v> {
     }
 
     fn wrong_len(&self) -> Fault {
-        self.fault(What::Said("wrong number of elements"), At::Value)
+        self.misses_length()
     }
 
     fn invalid(&self) -> Fault {

@@ -45,7 +45,7 @@ const FIRST_ROOM: usize = 1024;
 pub fn from_value<T: DeserializeOwned>(alloc: Global, value: &JsonValue) -> Result<T, Error>
     ensures { IfErr result IsOfValue }
 {
-    read(alloc, value).map_err(|fault| fault.into_error(alloc))
+    read(alloc, value).map_err(|fault| fault.into_error(alloc, value))
 }
 
 /// Reads a type of `serde` from a text, strictly and exactly: a repeated key, and a number that would
@@ -73,7 +73,7 @@ pub fn from_str_as<T: DeserializeOwned>(
     let value = parse_located(alloc, text, reading)?;
     match read(alloc, &value) {
         Ok(read) => Ok(read),
-        Err(fault) => Err(fault.in_text(alloc, text, reading)),
+        Err(fault) => Err(fault.in_text(alloc, &value, text, reading)),
     }
 }
 
@@ -100,7 +100,7 @@ pub fn to_value<T: Serialize>(alloc: Global, source: &T) -> Result<JsonValue, Er
 {
     match written(alloc, source, Tree::new(alloc)) {
         Ok(tree) => Ok(tree.into_value()),
-        Err(fault) => Err(fault.into_error(alloc)),
+        Err(fault) => Err(fault.into_error(alloc, &JsonValue::Null)),
     }
 }
 
@@ -151,7 +151,7 @@ fn text_of<T: Serialize, G: Generator + Drop>(alloc: Global, source: &T, out: G)
 {
     match written(alloc, source, Text::new(alloc, out)) {
         Ok(text) => Ok(text.into_generator()),
-        Err(fault) => Err(fault.into_error(alloc)),
+        Err(fault) => Err(fault.into_error(alloc, &JsonValue::Null)),
     }
 }
 

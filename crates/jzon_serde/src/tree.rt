@@ -50,6 +50,19 @@ pub(crate) struct Mark<'v> {
     /// How many frames there were, and how many were kept before.
     pub(crate) frames: usize,
     pub(crate) kept: usize,
+    pub(crate) spelling: Spelling,
+}
+
+/// What a type asked last of the value that is due, before it read any of it.
+#[derive(Clone, Copy, Drop, PartialEq, Eq)]
+pub(crate) enum Asked {
+    Nothing,
+    /// Of which kind it is.
+    Kind,
+    /// Whether it is null, which it isn't.
+    Unit,
+    /// To be read in each of several forms, which it doesn't have.
+    Forms,
 }
 
 #[derive(Drop)]
@@ -64,6 +77,7 @@ pub(crate) struct TreeFormat<'v> {
     pub(crate) key: Option<&'v str>,
     /// The error of the variant's name that was last looked up in vain.
     pub(crate) unknown: Option<Fault>,
+    pub(crate) asked: Asked,
     /// How the last object's names are spelled.
     pub(crate) spelling: Spelling,
 }
@@ -74,8 +88,8 @@ pub(crate) struct Spelling {
     /// The container around, and how many of its members were begun.
     pub(crate) level: usize,
     pub(crate) begun: usize,
-    /// `None` if not all are spelled alike.
-    pub(crate) case: Option<Case>,
+    /// The bit of each case of theirs: none if they aren't known.
+    pub(crate) cases: u16,
 }
 
 impl<'v> TreeFormat<'v> {
@@ -95,10 +109,11 @@ impl<'v> TreeFormat<'v> {
             },
             key: None,
             unknown: None,
+            asked: Asked::Nothing,
             spelling: Spelling {
                 level: 0,
                 begun: 0,
-                case: None,
+                cases: 0,
             },
         }
     }
@@ -168,6 +183,7 @@ impl<'v> TreeFormat<'v> {
             return Ok(None);
         };
         self.place.frame.begun = self.place.frame.begun.saturating_add(1);
+        self.asked = Asked::Nothing;
         Ok(Some(entry))
     }
 
@@ -213,31 +229,53 @@ impl<'v> TreeFormat<'v> {
         }
     }
 
-    /// Keeps how the names of an object that ended are spelled. If several structs share the object,
-    /// they must be spelled alike.
+    /// Keeps how the names of an object that ended are spelled, with those of other structs that
+    /// share the object.
     #[inline(always)]
     pub(crate) fn note_spelling(&mut self, names: &[Name<'_>]) {
-        let (level, begun) = (self.place.frame.level, self.place.frame.begun);
-        let is_shared = self.spelling.level == level && self.spelling.begun == begun;
-        let case = case_of(names);
-        self.spelling.case = if is_shared && self.spelling.case != case {
-            None
+        let before = if self.is_spelled_here() {
+            self.spelling.cases
         } else {
-            case
+            0
         };
-        self.spelling.level = level;
-        self.spelling.begun = begun;
+        self.spelling = Spelling {
+            level: self.place.frame.level,
+            begun: self.place.frame.begun,
+            cases: before | cases_of(names),
+        };
+    }
+
+    /// Whether the spelling is of the object that ended just now.
+    #[inline(always)]
+    pub(crate) fn is_spelled_here(&self) -> bool {
+        let frame = self.place.frame;
+        self.spelling.level == frame.level && self.spelling.begun == frame.begun
     }
 }
 
-/// How all of the names are spelled, if that is one way.
+/// How the names are spelled by which a key is read.
 #[inline(always)]
-fn case_of(names: &[Name<'_>]) -> Option<Case> {
-    let case = names.first()?.case;
+fn cases_of(names: &[Name<'_>]) -> u16 {
+    let mut cases = 0;
     for name in names {
-        if name.case != case {
-            return None;
+        if !name.skipped {
+            cases |= case_bit(name.case);
         }
     }
-    Some(case)
+    cases
+}
+
+#[inline(always)]
+pub(crate) fn case_bit(case: Case) -> u16 {
+    match case {
+        Case::AsIs => 1,
+        Case::Lower => 2,
+        Case::Upper => 4,
+        Case::Pascal => 8,
+        Case::Camel => 16,
+        Case::Snake => 32,
+        Case::ScreamingSnake => 64,
+        Case::Kebab => 128,
+        Case::ScreamingKebab => 256,
+    }
 }
