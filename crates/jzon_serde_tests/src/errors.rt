@@ -1,7 +1,7 @@
 //! What an error says, beside its message.
 
 use crate::common::{Tested, Tester, expect, expect_eq};
-use crate::types::{Camel, Config, Level, Rgb, Seconds};
+use crate::types::{Camel, Level, Page, Rgb, Seconds};
 use jzon::{JsonValue, Reading};
 use jzon_pointer::error::{Error, What};
 use jzon_serde::{
@@ -24,17 +24,17 @@ fn error_of<T: Drop>(read: Result<T, Error>) -> Result<Error, &'static str> {
 
 /// A text, and the pointer and the offset, line and column of the error.
 const PLACED: &[(&str, &str, usize, usize, usize)] = rows! {
-    ("{\"servers\": 5}", "/servers", 12, 1, 13)
-    ("{\"servers\": [\n5]}", "/servers/0", 14, 2, 1)
-    ("{\"é\": [1, {\"]\": 2}], \"servers\":\n\t[{}, 5]}", "/servers/0/firstName", 35, 2, 3)
-    ("{\"\\u0073ervers\": \"5\"}", "/servers", 17, 1, 18)
+    ("{\"items\": 5}", "/items", 10, 1, 11)
+    ("{\"items\": [\n5]}", "/items/0", 12, 2, 1)
+    ("{\"é\": [1, {\"]\": 2}], \"items\":\n\t[{}, 5]}", "/items/0/firstName", 33, 2, 3)
+    ("{\"\\u0069tems\": \"5\"}", "/items", 15, 1, 16)
     (" [] ", "", 1, 1, 2)
 };
 
 #[test]
 fn says_where(rt: HostRuntime) -> Tested {
     for (text, pointer, offset, line, column) in PLACED {
-        let error = error_of(from_str::<Config>(rt.alloc(), *text))?;
+        let error = error_of(from_str::<Page<Camel>>(rt.alloc(), *text))?;
         expect_eq(&rt, *text, error.pointer(), *pointer);
         let Some(place) = error.place() else {
             return Err("no place".into());

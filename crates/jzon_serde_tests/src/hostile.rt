@@ -2,7 +2,7 @@
 
 use crate::again::{again, written};
 use crate::common::{Tested, Tester, expect, expect_eq};
-use crate::types::{Camel, Deep, Either, Folder, Level, Maps, Money, Shape};
+use crate::types::{Camel, Deep, Either, Extra, Folder, Kind, Level, Shape};
 use jzon_pointer::error::Error;
 use jzon_serde::{Json, from_str, to_string, to_string_pretty, to_value};
 use jzon_test_support::{RUNS_MAX, Refusals, joined, keys_of_one_hash, object_text, rows};
@@ -25,7 +25,7 @@ const LONG: &[Long] = rows! {
     ("Rgb", &[("{\"x\":", 1), ("[", 400), ("]", 400), (",\"r\":1,\"g\":2,\"b\":3}", 1)], "{\"r\":1,\"g\":2,\"b\":3}")
     ("String", &[("\"", 1), ("x", 100_000), ("\"", 1)], "xx\"")
     ("u8", &[("\"", 1), ("x", 100_000), ("\"", 1)], "found a string of 100000 characters at (1:1)")
-    ("Either", &[("[", 300), ("]", 300)], "expected a value of its type, found an array of 1 element at (1:1)")
+    ("Either", &[("[", 300), ("]", 300)], "expected one of the forms of its type, found an array of 1 element at (1:1)")
     ("Exact", &[("0.", 1), ("0", 100), ("1", 1)], "1e-101")
 };
 
@@ -66,11 +66,11 @@ const ALLOCATING: &[(&str, Use, usize)] = rows! {
     ("{\"a\":{\"b\":[1.5,\"a string of more than thirty-two bytes\"]}}", Use::Json, 36)
     ("{\"size\":1,\"folders\":[{\"size\":2,\"folders\":[]}]}", Use::Folder, 280)
     ("\"loud\"", Use::Level, 7)
-    ("{\"price\":1234567890.123456789}", Use::Money, 14)
-    ("{\"list\":[[1],{\"name\":\"n\"}],\"after\":7,\"type\":\"connect\"}", Use::Deep, 51)
-    ("{\"names\":{\"a\":1},\"ids\":{\"x\":true}}", Use::Maps, 23)
+    ("{\"KIND\":\"k\",\"MAX_PRICE\":1234567890.123456789,\"DETAILS\":[]}", Use::Extra, 21)
+    ("{\"list\":[[1],{\"name\":\"n\"}],\"after\":7,\"type\":\"connect\"}", Use::Deep, 41)
+    ("{\"1\":true,\"x\":true}", Use::Ids, 13)
     ("{\"Line\":[1]}", Use::Shape, 14)
-    ("[1,256]", Use::Either, 11)
+    ("[1,256]", Use::Either, 10)
 };
 
 /// A type that a text is read as.
@@ -81,9 +81,9 @@ enum Use {
     Json,
     Folder,
     Level,
-    Money,
+    Extra,
     Deep,
-    Maps,
+    Ids,
     Shape,
     Either,
 }
@@ -104,9 +104,9 @@ fn use_as(alloc: Global, text: &str, kind: Use) -> Result<(), Error> {
         Use::Json => used::<Json>(alloc, text),
         Use::Folder => used::<Folder>(alloc, text),
         Use::Level => used::<Level>(alloc, text),
-        Use::Money => used::<Money>(alloc, text),
+        Use::Extra => used::<Extra>(alloc, text),
         Use::Deep => used::<Deep>(alloc, text),
-        Use::Maps => used::<Maps>(alloc, text),
+        Use::Ids => used::<BTreeMap<i32, bool>>(alloc, text),
         Use::Shape => used::<Shape>(alloc, text),
         Use::Either => used::<Either>(alloc, text),
     }
@@ -125,6 +125,30 @@ fn run(rt: &impl Tester, text: &str, kind: Use, refusals: &mut Refusals) -> Resu
         expect(rt, text, is_told);
     }
     Ok(has_failed)
+}
+
+/// An untagged enum drops the error of each form that a value doesn't have, and one with a variant for
+/// other names that of a name. None has a copy of the keys around: here 100 KB, a thousand times.
+#[test]
+fn drops_short_errors_counted(rt: HostRuntime) -> Tested {
+    let alloc = rt.alloc();
+    let parts = &[
+        ("{\"", 1),
+        ("k", 100_000),
+        ("\":[\"x\"", 1),
+        (",\"x\"", 999),
+        ("]}", 1),
+    ];
+    let text = joined(alloc, parts)?;
+    let mut refusals = Refusals::new(alloc);
+    refusals.open();
+    let read: BTreeMap<String, Vec<Either>> = from_str(alloc, text.as_str())?;
+    expect_eq(&rt, "keys", read.len(), 1);
+    refusals.expect_within(&rt, "untagged below a long key", 2_000_000)?;
+    refusals.open();
+    let read: BTreeMap<String, Vec<Kind>> = from_str(alloc, text.as_str())?;
+    expect_eq(&rt, "keys", read.len(), 1);
+    Ok(refusals.expect_within(&rt, "other names below a long key", 2_000_000)?)
 }
 
 #[test]

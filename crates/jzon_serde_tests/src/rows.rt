@@ -63,6 +63,11 @@ const INTEGERS: &[Row] = rows! {
     ("i128", "-18446744073709551615", "-18446744073709551615")
     ("i128", "-1e30", "expected an integer of at most 64 bits, found -1e30 at (1:1)")
     ("i128", "-0.0", "0")
+    ("u16", "-0.0", "0")
+    ("u32", "1e10", "expected an integer in the range of its type, found 10000000000 at (1:1)")
+    ("u64", "false", "expected an integer of at least 0, found false at (1:1)")
+    ("i8", "\"\"", "expected an integer, found \"\" at (1:1)")
+    ("i32", "{}", "expected an integer, found an empty object at (1:1)")
 };
 
 /// Floats, decimals, and other values without a name.
@@ -114,8 +119,8 @@ const SCALARS: &[Row] = rows! {
     ("String", "null", "expected a string, found null at (1:1)")
     ("String", "{}", "expected a string, found an empty object at (1:1)")
     ("()", "null", "null")
-    ("()", "0", "expected a value of its type, found 0 at (1:1)")
-    ("()", "[]", "expected a value of its type, found an empty array at (1:1)")
+    ("()", "0", "expected null, found 0 at (1:1)")
+    ("()", "[]", "expected null, found an empty array at (1:1)")
     ("Option", "null", "null")
     ("Option", "5", "5")
     ("Option", "\"5\"", "expected an integer of at least 0, found \"5\" at (1:1)")
@@ -129,6 +134,18 @@ const SCALARS: &[Row] = rows! {
     ("Even", "4", "4")
     ("Even", "5", "an odd number at (1:1)")
     ("Even", "256", "expected an integer in the range of its type, found 256 at (1:1)")
+    ("f64", "-1.5e-3", "-0.0015")
+    ("f64", "[]", "expected a number, found an empty array at (1:1)")
+    ("f32", "true", "expected a number, found true at (1:1)")
+    ("Floats", "[]", "[]")
+    ("Exact", "null", "expected a number, found null at (1:1)")
+    ("Exact", "true", "expected a number, found true at (1:1)")
+    ("bool", "null", "expected true or false, found null at (1:1)")
+    ("char", "\"\\n\"", "\"\\n\"")
+    ("String", "\"\\ud834\\udd1e\"", "\"\u{1d11e}\"")
+    ("Option", "[]", "expected an integer of at least 0, found an empty array at (1:1)")
+    ("Json", "\"a\"", "\"a\"")
+    ("Json", "true", "true")
 };
 
 /// Arrays, tuples, sets and maps.
@@ -140,14 +157,14 @@ const CONTAINERS: &[Row] = rows! {
     ("Vec", "[[1],\n [2, \"3\"]]", "/1/1: expected an integer of at least 0, found \"3\" at (2:6)")
     ("Vec", "[[1, 256]]", "/0/1: expected an integer in the range of its type, found 256 at (1:6)")
     ("pair", "[1, \"a\"]", "[1,\"a\"]")
-    ("pair", "[1]", "wrong number of elements at (1:1)")
-    ("pair", "[]", "wrong number of elements at (1:1)")
-    ("pair", "[1, \"a\", 2]", "/2: wrong number of elements at (1:10)")
+    ("pair", "[1]", "expected an array of another length, found an array of 1 element at (1:1)")
+    ("pair", "[]", "expected an array of another length, found an empty array at (1:1)")
+    ("pair", "[1, \"a\", 2]", "expected an array of 2 elements, found an array of 3 elements at (1:1)")
     ("pair", "[\"a\", 1]", "/0: expected an integer of at least 0, found \"a\" at (1:2)")
     ("pair", "{\"0\": 1, \"1\": \"a\"}", "expected an array, found an object of 2 entries at (1:1)")
     ("array", "[1, 2, 3]", "[1,2,3]")
-    ("array", "[1, 2]", "wrong number of elements at (1:1)")
-    ("array", "[1, 2, 3, 4]", "wrong number of elements at (1:1)")
+    ("array", "[1, 2]", "expected an array of another length, found an array of 2 elements at (1:1)")
+    ("array", "[1, 2, 3, 4]", "expected an array of another length, found an array of 4 elements at (1:1)")
     ("set", "[3, 1, 3, 2]", "[1,2,3]")
     ("set", "[1, -1]", "/1: expected an integer of at least 0, found -1 at (1:5)")
     ("map", "{}", "{}")
@@ -160,103 +177,114 @@ const CONTAINERS: &[Row] = rows! {
     ("map", "{\"1\": 256}", "/1: expected an integer in the range of its type, found 256 at (1:7)")
     ("map", "[]", "expected an object, found an empty array at (1:1)")
     ("map", "{\"1\": 1, \"1\": 2}", "Duplicate key at (1:10)")
-    ("Maps", "{}", "{\"names\":{},\"ids\":{},\"levels\":{},\"flags\":{}}")
-    (
-        "Maps",
-        "{\"names\": {\"b\": 1, \"a\": 2}, \"ids\": {\"-5\": true}, \"levels\": {\"warn\": 3}, \"flags\": {\"false\": 4}}",
-        "{\"names\":{\"a\":2,\"b\":1},\"ids\":{\"-5\":true},\"levels\":{\"warn\":3},\"flags\":{\"false\":4}}",
-    )
-    ("Maps", "{\"names\": {\"a/b~c\": \"1\"}}", "/names/a~1b~0c: expected an integer of at least 0, found \"1\" at (1:21)")
-    ("Maps", "{\"ids\": {\"x\": true}}", "/ids/x: expected an integer, found \"x\" at (1:10)")
-    ("Maps", "{\"ids\": {\"-0\": true}}", "/ids/-0: expected an integer, found \"-0\" at (1:10)")
-    (
-        "Maps",
-        "{\"ids\": {\"2147483648\": true}}",
-        "/ids/2147483648: expected a key of its type, found \"2147483648\" at (1:10)",
-    )
-    (
-        "Maps",
-        "{\"levels\": {\"loud\": 1}}",
-        "/levels/loud: expected one of debug, info, warn at (1:13)",
-    )
-    ("Maps", "{\"flags\": {\"yes\": 1}}", "/flags/yes: expected true or false, found \"yes\" at (1:12)")
+    ("names", "{\"b\": 1, \"a\": 2}", "{\"a\":2,\"b\":1}")
+    ("names", "{\"a/b~c\": \"1\"}", "/a~1b~0c: expected an integer of at least 0, found \"1\" at (1:11)")
+    ("ids", "{\"-5\": true}", "{\"-5\":true}")
+    ("ids", "{\"x\": true}", "/x: expected an integer, found \"x\" at (1:2)")
+    ("ids", "{\"-0\": true}", "/-0: expected an integer, found \"-0\" at (1:2)")
+    ("ids", "{\"2147483648\": true}", "/2147483648: expected a key of its type, found \"2147483648\" at (1:2)")
+    ("levels", "{\"warn\": 3, \"info\": 2}", "{\"info\":2,\"warn\":3}")
+    ("levels", "{\"loud\": 1}", "/loud: expected one of debug, info, warn at (1:2)")
+    ("flags", "{\"true\": 5, \"false\": 4}", "{\"false\":4,\"true\":5}")
+    ("flags", "{\"yes\": 1}", "/yes: expected true or false, found \"yes\" at (1:2)")
     ("Wrapped", "[1, 2]", "[1,2]")
     ("Wrapped", "{\"inner\": [1]}", "expected an array, found an object of 1 entry at (1:1)")
     ("Page", "{\"items\": [[1, 2], [3, 4]], \"next\": 2}", "{\"items\":[[1,2],[3,4]],\"next\":2}")
     ("Page", "{\"items\": []}", "{\"items\":[],\"next\":null}")
-    ("Page", "{\"items\": [[1]]}", "/items/0: wrong number of elements at (1:12)")
+    ("Page", "{\"items\": [[1]]}", "/items/0: expected an array of another length, found an array of 1 element at (1:12)")
+    ("pair", "5", "expected an array, found 5 at (1:1)")
+    ("array", "[]", "expected an array of another length, found an empty array at (1:1)")
+    ("set", "[]", "[]")
+    ("set", "{}", "expected an array, found an empty object at (1:1)")
+    ("map", "5", "expected an object, found 5 at (1:1)")
 };
 
 /// Structs, with serde's attributes.
 const STRUCTS: &[Row] = rows! {
     ("Nothing", "null", "null")
-    ("Nothing", "{}", "expected a value of its type, found an empty object at (1:1)")
+    ("Nothing", "{}", "expected null, found an empty object at (1:1)")
     ("Meters", "1.5", "1.5")
     ("Meters", "[1.5]", "expected a number, found an array of 1 element at (1:1)")
     ("Point", "[1, -2]", "[1,-2]")
-    ("Point", "[1]", "wrong number of elements at (1:1)")
+    ("Point", "[1]", "expected an array of another length, found an array of 1 element at (1:1)")
     ("Rgb", "{\"r\": 1, \"g\": 2, \"b\": 3}", "{\"r\":1,\"g\":2,\"b\":3}")
     ("Rgb", "{\"b\": 3, \"g\": 2, \"r\": 1}", "{\"r\":1,\"g\":2,\"b\":3}")
     ("Rgb", "{\"r\": 1, \"g\": 2, \"b\": 3, \"a\": [{}]}", "{\"r\":1,\"g\":2,\"b\":3}")
     ("Rgb", "[1, 2, 3]", "{\"r\":1,\"g\":2,\"b\":3}")
     ("Rgb", "[1, 2]", "the field b is missing at (1:1)")
-    ("Rgb", "[1, 2, 3, 4]", "/3: wrong number of elements at (1:11)")
+    ("Rgb", "[1, 2, 3, 4]", "expected an array of 3 elements, found an array of 4 elements at (1:1)")
     ("Rgb", "{\"r\": 1, \"b\": 3}", "/g: missing, expected a value at (1:1)")
     ("Rgb", "{}", "/r: missing, expected a value at (1:1)")
     ("Rgb", "\"red\"", "expected an object, found \"red\" at (1:1)")
     ("Rgb", "{\"r\": 1, \"g\": 256, \"b\": 3}", "/g: expected an integer in the range of its type, found 256 at (1:15)")
     ("Rgb", "{\"r\": 1, \"r\": 2, \"g\": 2, \"b\": 3}", "Duplicate key at (1:10)")
-    ("Person", "{\"name\": \"Ann\", \"age\": 5}", "{\"name\":\"Ann\",\"age\":5}")
-    ("Person", "{\"name\": \"Ann\", \"age\": null}", "{\"name\":\"Ann\",\"age\":null}")
-    ("Person", "{\"name\": \"Ann\"}", "{\"name\":\"Ann\",\"age\":null}")
-    ("Person", "{\"age\": 5}", "/name: missing, expected a value at (1:1)")
-    ("Person", "{\"name\": null}", "/name: expected a string, found null at (1:10)")
-    ("Person", "null", "expected an object, found null at (1:1)")
     ("Camel", "{\"firstName\": \"a\", \"portNumber\": 80}", "{\"firstName\":\"a\",\"portNumber\":80}")
     ("Camel", "{\"firstName\": \"a\"}", "/portNumber: missing, expected a value at (1:1)")
     ("Camel", "{\"firstName\": \"a\", \"port_number\": 80}", "/port_number: unknown key at (1:20)")
     ("Camel", "{\"firstName\": \"a\", \"portNumber\": 80, \"x\": 1}", "/x: unknown key at (1:38)")
     ("Camel", "{\"a/b\": 1}", "/a~1b: unknown key at (1:2)")
-    ("Kebab", "{\"log-level\": \"info\"}", "{\"log-level\":\"info\"}")
-    ("Kebab", "{\"log_level\": \"info\"}", "/log-level: missing, expected a value at (1:1)")
-    ("Screaming", "{\"MAX_SIZE\": 5}", "{\"MAX_SIZE\":5}")
-    ("Screaming", "{}", "/MAX_SIZE: missing, expected a value at (1:1)")
-    ("Renamed", "{\"maxPrice\": 1, \"color\": \"red\"}", "{\"maxPrice\":1,\"color\":\"red\"}")
-    ("Renamed", "{\"maxPrice\": 1, \"colour\": \"red\"}", "{\"maxPrice\":1,\"color\":\"red\"}")
-    ("Renamed", "{\"maxPrice\": 1, \"colour\": \"red\", \"color\": \"x\"}", "/color: given twice at (1:34)")
-    ("Renamed", "{\"max_price\": 1}", "/maxPrice: missing, expected a value at (1:1)")
-    ("Mixed", "{\"ID\": 1, \"longName\": 2}", "{\"ID\":1,\"longName\":2}")
+    ("Mixed", "{\"ID\": 1, \"longName\": 2}", "{\"ID\":1,\"longName\":2,\"color\":null}")
+    ("Mixed", "{\"ID\": 1, \"longName\": 2, \"color\": \"red\"}", "{\"ID\":1,\"longName\":2,\"color\":\"red\"}")
+    ("Mixed", "{\"ID\": 1, \"longName\": 2, \"colour\": \"red\"}", "{\"ID\":1,\"longName\":2,\"color\":\"red\"}")
+    ("Mixed", "{\"ID\": 1, \"colour\": \"red\", \"color\": \"x\"}", "/color: given twice at (1:28)")
     ("Mixed", "{\"ID\": 1}", "the field long_name is missing at (1:1)")
     ("Mixed", "{\"longName\": 1}", "the field ID is missing at (1:1)")
-    ("Defaults", "{}", "{\"tags\":[],\"port\":80}")
-    ("Defaults", "{\"port\": 8080, \"tags\": [\"a\"]}", "{\"tags\":[\"a\"],\"port\":8080}")
-    ("Defaults", "{\"tags\": null}", "/tags: expected an array, found null at (1:10)")
-    ("Skips", "{\"kept\": 1, \"maybe\": 2}", "{\"kept\":1,\"maybe\":2}")
-    ("Skips", "{\"kept\": 1, \"never\": 5}", "{\"kept\":1}")
-    ("Flat", "{\"timeout\": 5, \"name\": \"a\"}", "{\"name\":\"a\",\"timeout\":5}")
-    ("Flat", "{\"name\": \"a\"}", "/timeout: missing, expected a value at (1:1)")
-    ("Flat", "{\"timeout\": 5}", "/name: missing, expected a value at (1:1)")
+    ("Mixeds", "[{\"ID\": 1, \"longName\": 2}, {\"ID\": 1}]", "/1: the field long_name is missing at (1:28)")
+    ("Mixeds", "[{\"ID\": 1, \"longName\": 2}, [1, 2]]", "/1: the field color is missing at (1:28)")
+    ("Options", "{\"maxPrice\": 1}", "{\"maxPrice\":1,\"tags\":[],\"port\":80}")
+    ("Options", "{\"port\": 8080, \"maxPrice\": 1, \"tags\": [\"a\"]}", "{\"maxPrice\":1,\"tags\":[\"a\"],\"port\":8080}")
+    ("Options", "{\"max_price\": 1}", "/maxPrice: missing, expected a value at (1:1)")
+    ("Options", "{\"tags\": null}", "/tags: expected an array, found null at (1:10)")
+    ("Options", "{\"maxPrice\": 1, \"maybe\": 2}", "{\"maxPrice\":1,\"tags\":[],\"port\":80,\"maybe\":2}")
+    ("Options", "{\"maxPrice\": 1, \"maybe\": null}", "{\"maxPrice\":1,\"tags\":[],\"port\":80}")
+    ("Options", "{\"maxPrice\": 1, \"never\": 5}", "{\"maxPrice\":1,\"tags\":[],\"port\":80}")
+    ("Limits", "{\"timeout\": 5, \"max-size\": 1}", "{\"timeout\":5,\"max-size\":1}")
+    ("Limits", "{\"timeout\": 5, \"max_size\": 1}", "/max-size: missing, expected a value at (1:1)")
+    (
+        "Flat",
+        "{\"timeout\": 5, \"max-size\": 1, \"name\": \"a\", \"logLevel\": \"info\"}",
+        "{\"name\":\"a\",\"logLevel\":\"info\",\"timeout\":5,\"max-size\":1}",
+    )
+    ("Flat", "{\"name\": \"a\", \"logLevel\": \"info\", \"max-size\": 1}", "/timeout: missing, expected a value at (1:1)")
+    ("Flat", "{\"name\": \"a\", \"logLevel\": \"info\", \"timeout\": 5}", "the field max_size is missing at (1:1)")
+    ("Flat", "{\"timeout\": 5, \"max-size\": 1, \"logLevel\": \"info\"}", "/name: missing, expected a value at (1:1)")
+    ("Flat", "{\"timeout\": 5, \"max-size\": 1, \"name\": \"a\"}", "the field log_level is missing at (1:1)")
     ("Flat", "{\"name\": \"a\", \"timeout\": -5}", "/timeout: expected an integer of at least 0, found -5 at (1:26)")
-    ("Money", "{\"price\": 19.90}", "{\"price\":19.90}")
-    ("Money", "{\"price\": \"19.90\"}", "/price: expected a number, found \"19.90\" at (1:11)")
-    ("Extra", "{\"kind\": \"k\", \"details\": {\"z\": [1.50], \"a\": null}}", "{\"kind\":\"k\",\"details\":{\"z\":[1.50],\"a\":null},\"more\":null}")
-    ("Extra", "{\"kind\": \"k\", \"details\": null, \"more\": [1]}", "{\"kind\":\"k\",\"details\":null,\"more\":[1]}")
-    ("Extra", "{\"kind\": \"k\"}", "/details: missing, expected a value at (1:1)")
-    ("Config", "{\"servers\": []}", "{\"servers\":[]}")
+    (
+        "Extra",
+        "{\"KIND\": \"k\", \"MAX_PRICE\": 19.90, \"DETAILS\": {\"z\": [1.50], \"a\": null}}",
+        "{\"KIND\":\"k\",\"MAX_PRICE\":19.90,\"DETAILS\":{\"z\":[1.50],\"a\":null},\"MORE\":null}",
+    )
+    (
+        "Extra",
+        "{\"KIND\": \"k\", \"MAX_PRICE\": 1, \"DETAILS\": null, \"MORE\": [1]}",
+        "{\"KIND\":\"k\",\"MAX_PRICE\":1,\"DETAILS\":null,\"MORE\":[1]}",
+    )
+    (
+        "Extra",
+        "{\"KIND\": \"k\", \"MAX_PRICE\": 1, \"DETAILS\": [], \"MORE\": null}",
+        "{\"KIND\":\"k\",\"MAX_PRICE\":1,\"DETAILS\":[],\"MORE\":null}",
+    )
+    ("Extra", "{\"MAX_PRICE\": \"19.90\"}", "/MAX_PRICE: expected a number, found \"19.90\" at (1:15)")
+    ("Extra", "{\"KIND\": \"k\", \"MAX_PRICE\": 1}", "/DETAILS: missing, expected a value at (1:1)")
+    ("Extra", "{\"MAX_PRICE\": 5}", "/KIND: missing, expected a value at (1:1)")
+    ("Extra", "{\"KIND\": null}", "/KIND: expected a string, found null at (1:10)")
+    ("Extra", "null", "expected an object, found null at (1:1)")
+    ("Config", "{\"items\": []}", "{\"items\":[],\"next\":null}")
     (
         "Config",
-        "{\"servers\": [\n  {\"firstName\": \"a\", \"portNumber\": 1},\n  {\"firstName\": \"b\", \"portNumber\": 65536}\n]}",
-        "/servers/1/portNumber: expected an integer in the range of its type, found 65536 at (3:36)",
+        "{\"items\": [\n  {\"firstName\": \"a\", \"portNumber\": 1},\n  {\"firstName\": \"b\", \"portNumber\": 65536}\n]}",
+        "/items/1/portNumber: expected an integer in the range of its type, found 65536 at (3:36)",
     )
     (
         "Config",
-        "{\"servers\": [\n  {\"firstName\": \"a\", \"portNumber\": 1},\n  {\"firstName\": \"b\", \"prot\": 1}\n]}",
-        "/servers/1/prot: unknown key at (3:22)",
+        "{\"items\": [\n  {\"firstName\": \"a\", \"portNumber\": 1},\n  {\"firstName\": \"b\", \"prot\": 1}\n]}",
+        "/items/1/prot: unknown key at (3:22)",
     )
     (
         "Config",
-        "{\"servers\": [\n  {\"firstName\": \"a\"}\n]}",
-        "/servers/0/portNumber: missing, expected a value at (2:3)",
+        "{\"items\": [\n  {\"firstName\": \"a\"}\n]}",
+        "/items/0/portNumber: missing, expected a value at (2:3)",
     )
 };
 
@@ -267,16 +295,20 @@ const ENUMS: &[Row] = rows! {
     ("Level", "\"Warn\"", "expected one of debug, info, warn at (1:1)")
     ("Level", "\"\"", "expected one of debug, info, warn at (1:1)")
     ("Level", "{\"info\": null}", "\"info\"")
-    ("Level", "{\"info\": 1}", "/info: expected a value of its type, found 1 at (1:10)")
+    ("Level", "{\"info\": 1}", "/info: expected null, found 1 at (1:10)")
     ("Level", "{}", "expected a value of its type, found an empty object at (1:1)")
-    ("Level", "5", "expected an object, found 5 at (1:1)")
+    ("Level", "5", "expected a string or an object, found 5 at (1:1)")
+    ("Level", "[\"info\"]", "expected a string or an object, found an array of 1 element at (1:1)")
+    ("Shape", "null", "expected a string or an object, found null at (1:1)")
+    ("Check", "\"connect\"", "expected an object, found \"connect\" at (1:1)")
+    ("Packet", "[\"C\"]", "expected an object, found an array of 1 element at (1:1)")
     ("Shape", "\"Dot\"", "\"Dot\"")
     ("Shape", "{\"Circle\": 1.25}", "{\"Circle\":1.25}")
     ("Shape", "{\"Circle\": 2}", "{\"Circle\":2.0}")
     ("Shape", "{\"Line\": [1, -2]}", "{\"Line\":[1,-2]}")
     ("Shape", "{\"Box\": {\"h\": 1, \"w\": 2}}", "{\"Box\":{\"w\":2,\"h\":1}}")
-    ("Shape", "{\"Line\": [1]}", "/Line: wrong number of elements at (1:10)")
-    ("Shape", "{\"Line\": [1, 2, 3]}", "/Line/2: wrong number of elements at (1:17)")
+    ("Shape", "{\"Line\": [1]}", "/Line: expected an array of another length, found an array of 1 element at (1:10)")
+    ("Shape", "{\"Line\": [1, 2, 3]}", "/Line: expected an array of 2 elements, found an array of 3 elements at (1:10)")
     ("Shape", "{\"Circle\": \"x\"}", "/Circle: expected a number, found \"x\" at (1:12)")
     ("Shape", "{\"Box\": {\"w\": 2}}", "/Box/h: missing, expected a value at (1:9)")
     ("Shape", "\"Line\"", "expected a value of its type, found \"Line\" at (1:1)")
@@ -316,12 +348,13 @@ const ENUMS: &[Row] = rows! {
     ("Either", "[]", "[]")
     ("Either", "[1, 2]", "[1,2]")
     ("Either", "{\"name\": \"n\"}", "{\"name\":\"n\"}")
-    ("Either", "true", "expected a value of its type, found true at (1:1)")
-    ("Either", "[1, 256]", "expected a value of its type, found an array of 2 elements at (1:1)")
-    ("Either", "{\"name\": 5}", "expected a value of its type, found an object of 1 entry at (1:1)")
-    ("Either", "null", "expected a value of its type, found null at (1:1)")
+    ("Either", "true", "expected one of the forms of its type, found true at (1:1)")
+    ("Either", "[1, 256]", "expected one of the forms of its type, found an array of 2 elements at (1:1)")
+    ("Either", "{\"name\": 5}", "expected one of the forms of its type, found an object of 1 entry at (1:1)")
+    ("Either", "null", "expected one of the forms of its type, found null at (1:1)")
     ("Kind", "\"Known\"", "\"Known\"")
     ("Kind", "\"New\"", "\"Other\"")
+    ("Kinds", "{\"key\": [\"Known\", \"New\"]}", "{\"key\":[\"Known\",\"Other\"]}")
     ("Folder", "{\"size\": 1, \"folders\": []}", "{\"size\":1,\"folders\":[]}")
     (
         "Folder",
@@ -342,10 +375,12 @@ const ENUMS: &[Row] = rows! {
     (
         "Deep",
         "{\"list\": [[1], {\"name\": 5}], \"after\": 7, \"type\": \"connect\"}",
-        "/list/1: expected a value of its type, found an object of 1 entry at (1:16)",
+        "/list/1: expected one of the forms of its type, found an object of 1 entry at (1:16)",
     )
     ("Deep", "{\"list\": [[]], \"after\": 7, \"type\": \"get_path\", \"path\": []}", "/path: expected a string, found an empty array at (1:56)")
     ("Deep", "{\"list\": [], \"type\": \"connect\"}", "/after: missing, expected a value at (1:1)")
+    ("Deep", "{\"list\": [], \"type\": \"get_path\", \"path\": \"\", \"after\": 1}", "/status: missing, expected a value at (1:1)")
+    ("Deep", "{\"list\": [], \"after\": 1}", "/type: missing, expected a value at (1:1)")
 };
 
 /// Texts that are no JSON, or that a strict and exact reading rejects.

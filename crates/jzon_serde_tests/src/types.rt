@@ -3,7 +3,6 @@
 use jzon_serde::{Exact, Json};
 use serde::{Deserialize, DeserializeOwned, Deserializer, Format, Serialize, Serializer};
 use std::alloc::Global;
-use std::collections::BTreeMap;
 
 /// A unit struct.
 #[derive(Drop, Serialize, Deserialize)]
@@ -25,36 +24,10 @@ pub struct Rgb {
 }
 
 #[derive(Drop, Serialize, Deserialize)]
-pub struct Person {
-    name: String,
-    age: Option<u8>,
-}
-
-#[derive(Drop, Serialize, Deserialize)]
 #[serde(rename_all = "camelCase", deny_unknown_fields)]
 pub struct Camel {
     first_name: String,
     port_number: u16,
-}
-
-#[derive(Drop, Serialize, Deserialize)]
-#[serde(rename_all = "kebab-case")]
-pub struct Kebab {
-    log_level: Level,
-}
-
-#[derive(Drop, Serialize, Deserialize)]
-#[serde(rename_all = "SCREAMING_SNAKE_CASE")]
-pub struct Screaming {
-    max_size: u32,
-}
-
-#[derive(Drop, Serialize, Deserialize)]
-pub struct Renamed {
-    #[serde(rename = "maxPrice")]
-    max_price: u8,
-    #[serde(alias = "colour")]
-    color: Option<String>,
 }
 
 /// Not all of its keys are spelled alike.
@@ -64,14 +37,23 @@ pub struct Mixed {
     #[serde(rename = "ID")]
     own_id: u8,
     long_name: u8,
+    #[serde(alias = "colour")]
+    color: Option<String>,
 }
 
+/// With fields of another name, made where they are missing, or left out.
 #[derive(Drop, Serialize, Deserialize)]
-pub struct Defaults {
+pub struct Options {
+    #[serde(rename = "maxPrice")]
+    max_price: u8,
     #[serde(default)]
     tags: Vec<String>,
     #[serde(default = "http")]
     port: u16,
+    #[serde(skip)]
+    never: u8,
+    #[serde(skip_serializing_if = "Option::is_none")]
+    maybe: Option<u8>,
 }
 
 pub fn http() -> u16 {
@@ -79,22 +61,18 @@ pub fn http() -> u16 {
 }
 
 #[derive(Drop, Serialize, Deserialize)]
-pub struct Skips {
-    kept: u8,
-    #[serde(skip)]
-    never: u8,
-    #[serde(skip_serializing_if = "Option::is_none")]
-    maybe: Option<u8>,
-}
-
-#[derive(Drop, Serialize, Deserialize)]
+#[serde(rename_all = "kebab-case")]
 pub struct Limits {
     timeout: u64,
+    max_size: u8,
 }
 
+/// Its keys are spelled in two ways.
 #[derive(Drop, Serialize, Deserialize)]
+#[serde(rename_all = "camelCase")]
 pub struct Flat {
     name: String,
+    log_level: Level,
     #[serde(flatten)]
     limits: Limits,
 }
@@ -194,27 +172,11 @@ impl From<Even> for u8 {
     }
 }
 
-/// Maps with keys of several types.
 #[derive(Drop, Serialize, Deserialize)]
-pub struct Maps {
-    #[serde(default)]
-    names: BTreeMap<String, u8>,
-    #[serde(default)]
-    ids: BTreeMap<i32, bool>,
-    #[serde(default)]
-    levels: BTreeMap<Level, u8>,
-    #[serde(default)]
-    flags: BTreeMap<bool, u8>,
-}
-
-#[derive(Drop, Serialize, Deserialize)]
-pub struct Money {
-    price: Exact,
-}
-
-#[derive(Drop, Serialize, Deserialize)]
+#[serde(rename_all = "SCREAMING_SNAKE_CASE")]
 pub struct Extra {
     kind: String,
+    max_price: Exact,
     details: Json,
     more: Option<Json>,
 }
@@ -226,12 +188,6 @@ pub struct Deep {
     #[serde(flatten)]
     check: Check,
     after: u8,
-}
-
-/// Servers of a configuration.
-#[derive(Drop, Serialize, Deserialize)]
-pub struct Config {
-    servers: Vec<Camel>,
 }
 
 /// What several fields of a user's own type are: seconds as a text, read and written by hand.
