@@ -299,9 +299,8 @@ impl<'v> Format for TreeFormat<'v> {
             self.leave();
             return Ok(false);
         };
-        self.place.frame.begun = self.place.frame.begun.saturating_add(1);
+        self.begin_member();
         self.place.due = Due::Value(item);
-        self.asked = Asked::Nothing;
         Ok(true)
     }
 

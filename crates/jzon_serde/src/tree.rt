@@ -182,9 +182,16 @@ impl<'v> TreeFormat<'v> {
             self.leave();
             return Ok(None);
         };
+        self.begin_member();
+        Ok(Some(entry))
+    }
+
+    /// The next member begins: nothing was asked of it, and no key of another entry is its own.
+    #[inline(always)]
+    pub(crate) fn begin_member(&mut self) {
         self.place.frame.begun = self.place.frame.begun.saturating_add(1);
         self.asked = Asked::Nothing;
-        Ok(Some(entry))
+        self.key = None;
     }
 
     /// The string that is due, or the key.

@@ -355,6 +355,7 @@ const ENUMS: &[Row] = rows! {
     ("Kind", "\"Known\"", "\"Known\"")
     ("Kind", "\"New\"", "\"Other\"")
     ("Kinds", "{\"key\": [\"Known\", \"New\"]}", "{\"key\":[\"Known\",\"Other\"]}")
+    ("Kinds", "{\"key\":[{\"Known\":null,\"x\":1}]}", "/key/0/x: expected a value of its type, found 1 at (1:27)")
     ("Folder", "{\"size\": 1, \"folders\": []}", "{\"size\":1,\"folders\":[]}")
     (
         "Folder",
