@@ -82,8 +82,9 @@ impl<'v> Fields<'v> {
         }
     }
 
-    /// The same, or the default if the entry is missing, or null: so a later layer of a
-    /// configuration can unset it (`merge::layer`). Elsewhere null isn't taken for missing.
+    /// The value of the entry with this key, read as a type. If the entry is missing, it returns the
+    /// default. If its value is null, it returns the default too, even for a type that takes null:
+    /// so a later layer of a configuration can unset an entry (`merge::layer`).
     pub fn read_or<T: FromJson>(&self, key: &str, default: T) -> Result<T, Error>
         ensures value { IfOk result (λ x.
             (IsAbsent (find key.now (entries (read_from self.now))) × (x ≡ default))
@@ -99,7 +100,8 @@ impl<'v> Fields<'v> {
         }
     }
 
-    /// The same, or `None` if the entry is missing or null.
+    /// The value of the entry with this key, read as a type. If the entry is missing, or its value
+    /// is null, it returns `None`.
     pub fn optional<T: FromJson>(&self, key: &str) -> Result<Option<T>, Error>
         ensures none { IfOk result (λ o. o ≡ None
             → IsAbsent (find key.now (entries (read_from self.now)))) }
@@ -171,8 +173,8 @@ impl<'v> Fields<'v> {
         }
     }
 
-    /// The same without the value that is there, for a password or a token: of a string or a number
-    /// the message has its type alone.
+    /// The error of `expected` without the value that is there, for a password or a token: of a string
+    /// or a number the message has its type alone.
     ///
     /// ```rust
     /// return Err(login.expected_hidden("pin", "another number"));
@@ -206,7 +208,8 @@ impl<'v> Fields<'v> {
         if value.is_null() { None } else { Some(value) }
     }
 
-    /// The value of the entry with this key, read as a type.
+    /// Reads `value`, which is that of the entry with this key, as a type, and puts the key before
+    /// the pointer of an error.
     fn below<T: FromJson>(&self, key: &str, value: &JsonValue) -> Result<T, Error>
         requires { find key.now (entries (read_from self.now)) ≡ Some (view value.now) }
         ensures value { IfOk result (T.gives (view value.now)) }
@@ -219,7 +222,8 @@ impl<'v> Fields<'v> {
         }
     }
 
-    /// The error of the missing entry of this type. It says what the type expects in place of null.
+    /// The error of the missing entry of this type. Null is read as the type only to learn from
+    /// that error what the type expects; a type that takes null expects any value.
     #[cold]
     fn missing_as<T: FromJson>(&self, key: &str) -> Error
         requires { find key.now (entries (read_from self.now)) ≡ None }

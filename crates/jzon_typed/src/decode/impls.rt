@@ -40,7 +40,8 @@ fn or_wrong<T>(
     }
 }
 
-/// The same of an integer, which isn't taken either if a digit of the number may have been cut.
+/// The integer that was read. It is an error if there is none, or if digits of the number may have
+/// been cut.
 fn integer<T: Drop>(
     alloc: Global,
     value: &JsonValue,
@@ -58,7 +59,9 @@ fn integer<T: Drop>(
     or_wrong(alloc, value, read, expected)
 }
 
-/// Whether digits of the number may have been cut where its text was read.
+/// Whether digits of the number may have been cut where its text was read: the first that is cut
+/// didn't fit a `u64` after the mantissa. With the exponent 0 only a fraction can be missing, which
+/// doesn't count (docs/TOOLS.md, "Typed reading").
 fn may_be_cut(value: &JsonValue) -> bool
     ensures { result ≡ may_be_cut_in (view value.now) }
 {
@@ -326,7 +329,7 @@ fn whole(value: &JsonValue) -> Option<i64>
     value.as_exact_fixed_point_i64(0)
 }
 
-/// The same, if it isn't below 0. It is 0 of `-0` too.
+/// The integer that a number is, if it isn't below 0 and fits. It is 0 of `-0` too.
 #[tactic(auto, using(crate::proofs::IntegerSteps::integers))]
 fn natural(value: &JsonValue) -> Option<u64>
     ensures { SomeWhere (natural_in (view value.now)) (λ n. n < 2 ^ 64) result }
@@ -340,48 +343,56 @@ fn natural(value: &JsonValue) -> Option<u64>
     if whole(value)? == 0 { Some(0) } else { None }
 }
 
+/// `natural`, if it fits `u8`.
 fn u8_in(value: &JsonValue) -> Option<u8>
     ensures { SomeWhere (natural_in (view value.now)) (λ n. n < 2 ^ 8) result }
 {
     u8::try_from(natural(value)?).ok()
 }
 
+/// `natural`, if it fits `u16`.
 fn u16_in(value: &JsonValue) -> Option<u16>
     ensures { SomeWhere (natural_in (view value.now)) (λ n. n < 2 ^ 16) result }
 {
     u16::try_from(natural(value)?).ok()
 }
 
+/// `natural`, if it fits `u32`.
 fn u32_in(value: &JsonValue) -> Option<u32>
     ensures { SomeWhere (natural_in (view value.now)) (λ n. n < 2 ^ 32) result }
 {
     u32::try_from(natural(value)?).ok()
 }
 
+/// `natural`, if it fits `usize`.
 fn usize_in(value: &JsonValue) -> Option<usize>
     ensures { SomeWhere (natural_in (view value.now)) (λ n. n < 2 ^ 64) result }
 {
     usize::try_from(natural(value)?).ok()
 }
 
+/// `whole`, if it fits `i8`.
 fn i8_in(value: &JsonValue) -> Option<i8>
     ensures { SomeWhere (whole_in (view value.now)) (FitsSigned w8) result }
 {
     i8::try_from(whole(value)?).ok()
 }
 
+/// `whole`, if it fits `i16`.
 fn i16_in(value: &JsonValue) -> Option<i16>
     ensures { SomeWhere (whole_in (view value.now)) (FitsSigned w16) result }
 {
     i16::try_from(whole(value)?).ok()
 }
 
+/// `whole`, if it fits `i32`.
 fn i32_in(value: &JsonValue) -> Option<i32>
     ensures { SomeWhere (whole_in (view value.now)) (FitsSigned w32) result }
 {
     i32::try_from(whole(value)?).ok()
 }
 
+/// `whole`, if it fits `isize`.
 fn isize_in(value: &JsonValue) -> Option<isize>
     ensures { SomeWhere (whole_in (view value.now)) (FitsSigned w64) result }
 {

@@ -31,7 +31,8 @@ pub fn expected(alloc: Global, value: &JsonValue, words: &'static str) -> Error
     wrong(alloc, value, Expected::Other(words))
 }
 
-/// The error of a value that isn't what is expected. Inlined, it would be cleared at each read.
+/// The error of a value that isn't what is expected. Inlined, it would add its locals to each
+/// reader, which clears room for them at each call, also if it succeeds.
 #[cold]
 pub(super) fn wrong(alloc: Global, value: &JsonValue, expected: Expected) -> Error
     ensures { Refuses expected (view value.now) → IsErrorIn (view value.now) result }
