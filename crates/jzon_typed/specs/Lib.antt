@@ -1,3 +1,5 @@
+pub mod Alike
+pub mod AlikeLaws
 pub mod Back
 pub mod Codec
 pub mod Decode

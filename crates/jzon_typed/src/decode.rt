@@ -12,11 +12,13 @@ ghost use Rattle.jzon_typed.specs.Decode.{IsErrorIn, IsErrorOfText, MeansSome};
 ghost use Rattle.jzon.specs.Reading.{strict_exact};
 ghost use Rattle.jzon_typed.specs.Integers.{EqualIntegers};
 
+mod alike;
 mod elements;
 mod fields;
 mod impls;
 mod wrong;
 
+pub use alike::{ReadsAlike, law_of};
 pub use elements::element;
 pub use fields::Fields;
 use jzon::{JsonValue, Reading, parse_located};
