@@ -1,13 +1,14 @@
 -- How a type is written and read back, and a struct by its fields: what an `impl` of `ReadsBack` for one's own struct
 -- is made of. (The laws are proofs; they are here because the laws of `ReadsBack` cite them.)
 use Rattle.std.specs.Prelude.{refl, List, [], ◌∷◌, ◌≡◌, ◌<◌, ◌^◌, ℕ, ℤ, pos, Bool, true, ◌&&◌, Option, Some, IsSome, MatchOption, ◌⊎◌, FitsSigned, nat_eq, string_bytes}
+use Rattle.std.specs.BTreeMap.{BTreeMap, IsOrdered, get_by_text}
 use Rattle.std.specs.Bool.{beq}
 use Rattle.std.specs.Cmp.Lexicographic.{pointwise}
 use Rattle.std.specs.Int.{Width, w8, w16, w32, w64}
 use Rattle.std.specs.List.{AllZip}
 use Rattle.std.specs.Option.{option_eq}
 use Rattle.std.specs.Ordering.{int_eq}
-use Rattle.std.specs.String.{string_eq}
+use Rattle.std.specs.String.{string_cmp, string_eq}
 use Rattle.std.specs.declared.alloc.Global.{Global}
 use Rattle.std.specs.declared.boxed.Box.{Box}
 use Rattle.std.specs.declared.string.String.{String}
@@ -15,7 +16,7 @@ use Rattle.std.specs.declared.vec.Vec.{Vec}
 use Rattle.std.proofs.lemmas.Bool.{and_from}
 use Rattle.std.proofs.lemmas.Option.{none-some}
 use Rattle.jzon.specs.Decimal.{Decimal, integer_parts, same_decimal}
-use Rattle.jzon.specs.IntoJson.{ListMeans, OptionMeans}
+use Rattle.jzon.specs.IntoJson.{ListMeans, MapMeans, OptionMeans}
 use Rattle.jzon.specs.JsonValue.{JsonValue}
 use Rattle.jzon.specs.Readers.{is_array, is_object, items, number_in, text_in, truth_in}
 use Rattle.jzon.specs.Same.{same}
@@ -24,7 +25,8 @@ use Rattle.jzon.specs.View.{view}
 use Rattle.jzon_typed.specs.Back.{back-bool, back-int, back-list, back-nat, back-number, back-option, back-pair, back-text, back-triple, back-value, entry-back}
 use Rattle.jzon_typed.specs.Back.{taken-bool, taken-int, taken-list, taken-nat, taken-number, taken-option, taken-pair, taken-text, taken-triple, entry-taken}
 use Rattle.jzon_typed.specs.DecodeFields.{HasEntry}
-use Rattle.jzon_typed.specs.DecodeMaps.{IsArrayOf, ReadsItem, TakesItem, TakesItems}
+use Rattle.jzon_typed.specs.DecodeMaps.{IsArrayOf, ReadsEntries, ReadsItem, TakesEntries, TakesItem, TakesItems}
+use Rattle.jzon_typed.specs.MapLaws.{back-map, taken-map}
 use Rattle.jzon_typed.specs.Integers.{IsNatural, IsNaturalBelow, IsWhole, IsWholeOf}
 
 -- the members of `ToJson` and `FromJson` of a type, its equality, and the laws of `ReadsBack`
@@ -190,6 +192,17 @@ tuple3 c d e = record {
   equal = λ p q. (c.equal p.0 q.0 && d.equal p.1 q.1) && e.equal p.2 q.2;
   back = back-triple c.shows d.shows e.shows c.gives c.equal c.back d.gives d.equal d.back e.gives e.equal e.back;
   taken = taken-triple c.shows d.shows e.shows c.takes c.taken d.takes d.taken e.takes e.taken;
+}
+
+-- of `BTreeMap<String, T>`
+abbrev pub map : {X : Type 0} → Codec X → Codec (BTreeMap (String Global) X)
+map c = record {
+  shows = λ m v. MapMeans string_bytes c.shows m.entries v × IsOrdered string_cmp m;
+  gives = λ v m. (is_object v ≡ true) × ReadsEntries c.gives v (get_by_text m) × IsOrdered string_cmp m;
+  takes = TakesEntries c.takes;
+  equal = λ m n. pointwise (λ p q. string_eq p.0 q.0 && c.equal p.1 q.1) m.entries n.entries;
+  back = back-map c.shows c.gives c.equal c.back;
+  taken = taken-map c.shows c.takes c.taken;
 }
 
 -- ---- a struct

@@ -1,7 +1,7 @@
 -- Lists and maps that are read from the elements of an array and the entries of an object.
 use Rattle.std.specs.Prelude.{◌≡◌, ℕ, List, Option, None, Some, MatchOption, slice_get, true}
 use Rattle.jzon.specs.PairList.{find}
-use Rattle.jzon.specs.Readers.{count, entries, is_array, items}
+use Rattle.jzon.specs.Readers.{count, entries, is_array, is_object, items}
 use Rattle.jzon.specs.Value.{Value}
 
 -- what is looked up by the bytes of each key was read from the value of that key, if the object has one
@@ -24,3 +24,7 @@ IsArrayOf n v = (is_array v ≡ true) × (count v ≡ n)
 -- an array, of which each element is taken
 abbrev pub TakesItems : (Value → Type 0) → Value → Type 0
 TakesItems takes v = (is_array v ≡ true) × ((i : ℕ) (w : Value) → slice_get (items v) i ≡ Some w → takes w)
+
+-- an object, of which each entry's value is taken
+abbrev pub TakesEntries : (Value → Type 0) → Value → Type 0
+TakesEntries takes v = (is_object v ≡ true) × ((k : List ℕ) (w : Value) → find k (entries v) ≡ Some w → takes w)

@@ -8,3 +8,5 @@ pub mod DecodeFields
 pub mod DecodeFound
 pub mod DecodeMaps
 pub mod Integers
+pub mod MapLaws
+pub mod SortedMaps

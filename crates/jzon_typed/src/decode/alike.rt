@@ -6,10 +6,12 @@ ghost use Rattle.jzon_typed.specs.Integers.{EqualIntegers};
 ghost use Rattle.jzon_typed.specs.Alike.{AlikeBy, TakenAlike};
 ghost use Rattle.jzon_typed.specs.AlikeLaws.{alike-bool, alike-int, alike-list, alike-nat, alike-number, alike-option, alike-pair, alike-text, alike-triple, alike-value};
 ghost use Rattle.jzon_typed.specs.AlikeLaws.{taken-alike-bool, taken-alike-int, taken-alike-list, taken-alike-nat, taken-alike-number, taken-alike-option, taken-alike-pair, taken-alike-text, taken-alike-triple};
+ghost use Rattle.jzon_typed.specs.MapLaws.{alike-map, taken-alike-map};
 
 use super::FromJson;
 use jzon::JsonValue;
 use jzon::number::Number;
+use std::collections::BTreeMap;
 
 /// Types that are read alike from equal values: the results are equal, and if one of the values is
 /// taken, so is the other, if of no number in it digits may have been cut. An implementation is a
@@ -143,4 +145,10 @@ impl<A: ReadsAlike, B: ReadsAlike, C: ReadsAlike> ReadsAlike for (A, B, C) {
 
     ghost taken_alike = { λ equal. taken-alike-triple A.FromJson.takes B.FromJson.takes C.FromJson.takes
         (A.taken_alike equal) (B.taken_alike equal) (C.taken_alike equal) };
+}
+
+impl<T: ReadsAlike> ReadsAlike for BTreeMap<String, T> {
+    ghost alike = { λ equal. alike-map T.FromJson.gives T.PartialEq.eq (T.alike equal) };
+
+    ghost taken_alike = { λ equal. taken-alike-map T.FromJson.takes (T.taken_alike equal) };
 }

@@ -4,13 +4,14 @@ ghost use Rattle.std.specs.Prelude.{◌≡◌, ◌<◌, ◌^◌, ◌⊎◌, None
 ghost use Rattle.std.specs.Int.{w8, w16, w32, w64};
 ghost use Rattle.std.specs.List.{AllZip};
 ghost use Rattle.std.specs.BTreeMap as tree;
+ghost use Rattle.std.specs.String.{string_cmp};
 ghost use Rattle.jzon.specs.Decimal.{SomeWhere};
 ghost use Rattle.jzon.specs.Readers.{is_array, is_object, items, number_in, text_in, truth_in};
 ghost use Rattle.jzon.specs.Value.{null};
 ghost use Rattle.jzon.specs.View.{view};
 ghost use Rattle.jzon_typed.specs.Decode.{IsErrorIn};
 ghost use Rattle.jzon_typed.specs.DecodeExpected.{Refuses};
-ghost use Rattle.jzon_typed.specs.DecodeMaps.{IsArrayOf, ReadsEntries, ReadsItem, TakesItem, TakesItems};
+ghost use Rattle.jzon_typed.specs.DecodeMaps.{IsArrayOf, ReadsEntries, ReadsItem, TakesEntries, TakesItem, TakesItems};
 ghost use Rattle.jzon_typed.specs.Integers.{may_be_cut_in, natural_in, whole_in, IsNatural, IsNaturalBelow, IsWhole, IsWholeOf};
 
 use super::elements::check_len;
@@ -305,7 +306,10 @@ impl<A: FromJson, B: FromJson, C: FromJson> FromJson for (A, B, C) {
 
 /// The entries of an object.
 impl<T: FromJson> FromJson for BTreeMap<String, T> {
-    ghost gives = { λ v m. (is_object v ≡ true) × ReadsEntries T.gives v (tree.get_by_text m) };
+    ghost gives = { λ v m. (is_object v ≡ true) × ReadsEntries T.gives v (tree.get_by_text m)
+        × tree.IsOrdered string_cmp m };
+
+    ghost takes = { TakesEntries T.takes };
 
     fn from_json(alloc: Global, value: &JsonValue) -> Result<BTreeMap<String, T>, Error> {
         let fields = Fields::of(alloc, value)?;

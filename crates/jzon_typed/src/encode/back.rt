@@ -5,6 +5,7 @@ ghost use Rattle.std.specs.Int.{w8, w16, w32, w64};
 ghost use Rattle.jzon.specs.Value.{Value, null};
 ghost use Rattle.jzon_typed.specs.Back.{back-bool, back-int, back-list, back-nat, back-number, back-option, back-pair, back-text, back-triple, back-value};
 ghost use Rattle.jzon_typed.specs.Back.{taken-bool, taken-int, taken-list, taken-nat, taken-number, taken-option, taken-pair, taken-text, taken-triple, no-array, no-boolean, no-list, no-number, no-text};
+ghost use Rattle.jzon_typed.specs.MapLaws.{back-map, no-map, taken-map};
 ghost use Rattle.jzon_pointer.specs.Errors.{memory};
 
 use super::ToJson;
@@ -12,11 +13,13 @@ use crate::decode::{Error, FromJson};
 use jzon::JsonValue;
 use jzon::number::Number;
 use std::alloc::Global;
+use std::collections::BTreeMap;
 use std::result::Result;
 
 /// Types that read back what they write: each value that is written is taken, and gives only results
-/// equal to it. An implementation is a proof of both. What is written of a list, an option or a box
-/// is read back if that of its content is; of an option only if nothing is written as null.
+/// equal to it. An implementation is a proof of both. What is written of a list, a map, an option, a
+/// box, a pair or a triple is read back if that of its content is; of an option only if nothing is
+/// written as null.
 pub trait ReadsBack: FromJson + ToJson + PartialEq {
     ghost back: { (x y : Self) (v : Value) → Self.ToJson.shows x v → Self.FromJson.gives v y
         → Self.PartialEq.eq y x ≡ true };
@@ -162,6 +165,12 @@ impl<A: ReadsBack, B: ReadsBack, C: ReadsBack> ReadsBack for (A, B, C) {
         B.FromJson.takes B.taken C.FromJson.takes C.taken };
 }
 
+impl<T: ReadsBack> ReadsBack for BTreeMap<String, T> {
+    ghost back = { back-map T.ToJson.shows T.FromJson.gives T.PartialEq.eq T.back };
+
+    ghost taken = { taken-map T.ToJson.shows T.FromJson.takes T.taken };
+}
+
 impl NotNull for u8 {
     ghost not_null = { λ x h. no-number _ h.0 };
 }
@@ -228,4 +237,8 @@ impl<A: ToJson, B: ToJson, C: ToJson> NotNull for (A, B, C) {
 
 impl<T: NotNull> NotNull for Box<T> {
     ghost not_null = { λ x. T.not_null x.value };
+}
+
+impl<T: ToJson> NotNull for BTreeMap<String, T> {
+    ghost not_null = { λ m h. no-map T.shows m.entries h.0 };
 }

@@ -1,10 +1,12 @@
 //! How the types of std are written.
 
 ghost use Rattle.std.specs.Prelude.{◌≡◌, ◌<◌, ◌^◌, ◌∷◌, [], pos, string_bytes, FitsSigned, IfOk, IsOkUnless};
+ghost use Rattle.std.specs.BTreeMap as tree;
 ghost use Rattle.std.specs.Int.{w8, w16, w32, w64};
+ghost use Rattle.std.specs.String.{string_cmp};
 ghost use Rattle.jzon.specs.Decimal.{integer_parts};
 ghost use Rattle.jzon.specs.Value.{Value, array, boolean, kind_of, number, text, values_of};
-ghost use Rattle.jzon.specs.IntoJson.{ListMeans, OptionMeans};
+ghost use Rattle.jzon.specs.IntoJson.{ListMeans, MapMeans, OptionMeans};
 ghost use Rattle.jzon.specs.View.{view};
 
 use super::{Members, ToJson};
@@ -199,6 +201,8 @@ impl<A: ToJson, B: ToJson, C: ToJson> ToJson for (A, B, C) {
 
 /// The object of its entries, in the map's order.
 impl<T: ToJson> ToJson for BTreeMap<String, T> {
+    ghost shows = { λ m v. MapMeans string_bytes T.shows m.entries v × tree.IsOrdered string_cmp m };
+
     fn to_json(&self, alloc: Global) -> Result<JsonValue> {
         let mut members = Members::new(alloc);
         for (key, source) in self.iter() {
