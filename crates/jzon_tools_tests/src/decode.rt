@@ -27,6 +27,7 @@ enum As {
     I64,
     Isize,
     Truth,
+    Char,
     Text,
     Number,
     Value,
@@ -131,7 +132,7 @@ impl FromJson for Sample {
     }
 }
 
-/// A text, what it is read as, and the compact text of what was read, or the error's message. 18 of
+/// A text, what it is read as, and the compact text of what was read, or the error's message. 19 of
 /// the types are converted into a value and read once more in between; of a `Sample` the parts are
 /// listed.
 const READ: &[(&str, As, &str)] = rows! {
@@ -181,6 +182,14 @@ const READ: &[(&str, As, &str)] = rows! {
     ("true", As::Truth, "true")
     ("false", As::Truth, "false")
     ("0", As::Truth, "expected true or false, found 0")
+    (r#""a""#, As::Char, r#""a""#)
+    (r#""\u0000""#, As::Char, r#""\u0000""#)
+    (r#""\ud834\udd1e""#, As::Char, r#""𝄞""#)
+    (r#""é""#, As::Char, r#""é""#)
+    (r#""""#, As::Char, r#"expected a string of one character, found """#)
+    (r#""ab""#, As::Char, r#"expected a string of one character, found "ab""#)
+    ("7", As::Char, "expected a string of one character, found 7")
+    (r#"["a"]"#, As::Char, "expected a string of one character, found an array of 1 element")
     (r#""""#, As::Text, r#""""#)
     (r#""a\n\"""#, As::Text, r#""a\n\"""#)
     (r#""a string of more than thirty bytes""#, As::Text, r#""a string of more than thirty bytes""#)
@@ -307,6 +316,7 @@ fn printed_as(alloc: Global, text: &str, kind: As) -> Result<String, Error> {
         As::I64 => reread::<i64>(alloc, text),
         As::Isize => reread::<isize>(alloc, text),
         As::Truth => reread::<bool>(alloc, text),
+        As::Char => reread::<char>(alloc, text),
         As::Text => reread::<String>(alloc, text),
         As::Number => reread::<Number>(alloc, text),
         As::Value => reread::<JsonValue>(alloc, text),

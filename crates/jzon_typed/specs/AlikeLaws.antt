@@ -1,6 +1,6 @@
 -- Equal values give equal results, and where no digit may have been cut, one is taken if the other is. (These are
 -- proofs; they are here because the laws of `ReadsAlike` cite them.)
-use Rattle.std.specs.Prelude.{refl, List, [], ◌∷◌, ◌≡◌, ℕ, ℤ, zero, suc, Bool, true, false, ◌&&◌, Option, None, Some, IsSome, MatchOption, ◌⊎◌, length, nat_eq, option_and_then, slice_get, string_bytes}
+use Rattle.std.specs.Prelude.{refl, List, [], ◌∷◌, ◌++◌, ◌≡◌, ℕ, ℤ, zero, suc, Bool, true, false, ◌&&◌, Option, None, Some, IsSome, MatchOption, ◌⊎◌, length, nat_eq, option_and_then, slice_get, encode_utf8, string_bytes}
 use Rattle.std.specs.Bool.{beq}
 use Rattle.std.specs.Cmp.{bool_eq_equiv, booleans_Decides, int_eq_equiv, nat_eq_equiv}
 use Rattle.std.specs.Cmp.Lexicographic.{pointwise}
@@ -14,6 +14,7 @@ use Rattle.std.specs.declared.string.String.{String}
 use Rattle.std.proofs.Common.{sym, ap, ◌∙◌, subst, inl, inr}
 use Rattle.std.proofs.lemmas.Bool.{and_from, and_parts, false≢true}
 use Rattle.std.proofs.lemmas.Option.{none-some, same_Some}
+use Rattle.std.proofs.lemmas.Str.{encode_same}
 use Rattle.std.proofs.lemmas.Slice.Eq.{bytes_eq-Decides}
 use Rattle.jzon.specs.Decimal.{Decimal, same_decimal}
 use Rattle.jzon.specs.JsonValue.{JsonValue}
@@ -25,7 +26,7 @@ use Rattle.jzon.specs.Value.{Kind, Value, null, boolean, text, number, array, ob
 use Rattle.jzon.specs.Value.{list_of_values}
 use Rattle.jzon.specs.View.{view}
 use Rattle.jzon_typed.specs.Alike.{AlikeBy, AreAlike, IsUncut, AreUncut, TakenAlike}
-use Rattle.jzon_typed.specs.DecodeMaps.{IsArrayOf, ReadsItem, TakesItem, TakesItems}
+use Rattle.jzon_typed.specs.DecodeMaps.{IsArrayOf, IsOneChar, ReadsItem, TakesItem, TakesItems}
 use Rattle.jzon_typed.specs.Integers.{EqualIntegers, may_be_cut_in, natural_of, whole_in, IsNatural, IsNaturalBelow, IsWhole, IsWholeOf}
 
 -- ---- what holds of equal values, by their kind
@@ -81,6 +82,18 @@ alike-text x y v w h f g =
 -- and one is taken if the other is
 pub taken-alike-text : (v w : Value) → AreAlike v w → IsUncut w → IsSome (text_in v) → IsSome (text_in w)
 taken-alike-text v w h cut taken = ap (λ o. is_some o.4) (sym (outlined v w h.0)) ∙ taken
+
+-- the same of a character
+pub alike-char : (x y : ℕ) (v w : Value) → AreAlike v w → text_in v ≡ Some (encode_utf8 x)
+    → text_in w ≡ Some (encode_utf8 y) → nat_eq x y ≡ true
+alike-char x y v w h f g =
+    let same = same_Some (encode_utf8 x) (encode_utf8 y) (sym f ∙ ap (λ o. o.4) (outlined v w h.0) ∙ g) in
+    let is : x ≡ y = (encode_same x y [] [] (ap (λ (l : List ℕ). l ++ []) same)).0 in
+    subst (λ (n : ℕ). nat_eq x n ≡ true) is (nat_eq_equiv.refl x)
+
+-- and one is taken if the other is
+pub taken-alike-char : (v w : Value) → AreAlike v w → IsUncut w → IsOneChar v → IsOneChar w
+taken-alike-char v w h cut (c, scalar, is) = (c, scalar, ap (λ o. o.4) (sym (outlined v w h.0)) ∙ is)
 
 abbrev NumbersAlike : Value → Value → Type 0
 NumbersAlike v w = (x y : Decimal) → number_in v ≡ Some x → number_in w ≡ Some y → same_decimal x y ≡ true

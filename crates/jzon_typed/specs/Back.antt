@@ -1,6 +1,7 @@
 -- What is written of a value is taken, and gives only results equal to it. (These are proofs; they are here because the
 -- laws of `ReadsBack` cite them.)
-use Rattle.std.specs.Prelude.{refl, List, [], ◌∷◌, string_bytes, ◌≡◌, ◌<◌, ◌*◌, ◌^◌, ℕ, zero, suc, ℤ, pos, negsuc, neg_ℤ, Bool, true, false, ◌&&◌, Option, None, Some, is_some, IsSome, MatchOption, ◌⊎◌, FitsSigned, nat_eq, slice_get}
+use Rattle.std.specs.Prelude.{refl, List, [], ◌∷◌, string_bytes, ◌++◌, ◌≡◌, ◌<◌, ◌*◌, ◌^◌, ℕ, zero, suc, ℤ, pos, negsuc, neg_ℤ, Bool, true, false, ◌&&◌, Option, None, Some, is_some, IsSome, MatchOption, ◌⊎◌, FitsSigned, nat_eq, slice_get, encode_utf8}
+use Rattle.std.specs.Char.{IsScalar}
 use Rattle.std.specs.Cmp.Lexicographic.{pointwise}
 use Rattle.std.specs.List.{AllZip}
 use Rattle.std.specs.Option.{option_eq}
@@ -12,6 +13,7 @@ use Rattle.std.proofs.Common.{sym, ap, ◌∙◌, subst, inl, inr, arith}
 use Rattle.std.proofs.lemmas.Bool.{and_from, false≢true}
 use Rattle.std.proofs.lemmas.Option.{none-some, same_Some}
 use Rattle.std.proofs.lemmas.Slice.Eq.{bytes_eq-Decides}
+use Rattle.std.proofs.lemmas.Str.{encode_same}
 use Rattle.std.specs.Str.{bytes_eq}
 use Rattle.std.specs.String.{string_eq}
 use Rattle.std.specs.declared.alloc.Global.{Global}
@@ -26,7 +28,7 @@ use Rattle.jzon.specs.SameLaws.{same_equiv}
 use Rattle.jzon.specs.Value.{Kind, Value, null, array, boolean, kind_of, number, text, list_of_values, values_of}
 use Rattle.jzon.specs.View.{view}
 use Rattle.jzon_typed.specs.DecodeFields.{HasEntry}
-use Rattle.jzon_typed.specs.DecodeMaps.{IsArrayOf, ReadsItem, TakesItem, TakesItems}
+use Rattle.jzon_typed.specs.DecodeMaps.{IsArrayOf, IsOneChar, ReadsItem, TakesItem, TakesItems}
 use Rattle.jzon_typed.specs.Integers.{may_be_cut, may_be_cut_in, natural_in, whole_in, IsNatural, IsNaturalBelow, IsWhole, IsWholeOf}
 
 -- of what a boolean is written as, only an equal one is read
@@ -96,6 +98,18 @@ back-text x y v h g =
 -- and one is read
 pub taken-text : (x : String Global) (v : Value) → v ≡ text (kind_of (string_bytes x)) (string_bytes x) → IsSome (text_in v)
 taken-text x v h = ap (λ w. is_some (text_in w)) h
+
+-- of a character
+pub back-char : (x y : ℕ) (v : Value) → (v ≡ text (kind_of (encode_utf8 x)) (encode_utf8 x)) × IsScalar x
+    → text_in v ≡ Some (encode_utf8 y) → nat_eq y x ≡ true
+back-char x y v h g =
+    let same = same_Some (encode_utf8 x) (encode_utf8 y) (sym (ap text_in h.0) ∙ g) in
+    let is : x ≡ y = (encode_same x y [] [] (ap (λ (l : List ℕ). l ++ []) same)).0 in
+    subst (λ (n : ℕ). nat_eq n x ≡ true) is (nat_eq_equiv.refl x)
+
+-- and one is read
+pub taken-char : (x : ℕ) (v : Value) → (v ≡ text (kind_of (encode_utf8 x)) (encode_utf8 x)) × IsScalar x → IsOneChar v
+taken-char x v h = (x, h.1, ap text_in h.0)
 
 -- ---- lists
 

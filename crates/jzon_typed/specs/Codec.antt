@@ -1,8 +1,9 @@
 -- How a type is written and read back, and a struct by its fields: what an `impl` of `ReadsBack` for one's own struct
 -- is made of. (The laws are proofs; they are here because the laws of `ReadsBack` cite them.)
-use Rattle.std.specs.Prelude.{refl, List, [], ◌∷◌, ◌≡◌, ◌<◌, ◌^◌, ℕ, ℤ, pos, Bool, true, ◌&&◌, Option, Some, IsSome, MatchOption, ◌⊎◌, FitsSigned, nat_eq, string_bytes}
+use Rattle.std.specs.Prelude.{refl, List, [], ◌∷◌, ◌≡◌, ◌<◌, ◌^◌, ℕ, ℤ, pos, Bool, true, ◌&&◌, Option, Some, IsSome, MatchOption, ◌⊎◌, FitsSigned, nat_eq, encode_utf8, string_bytes}
 use Rattle.std.specs.BTreeMap.{BTreeMap, IsOrdered, get_by_text}
 use Rattle.std.specs.Bool.{beq}
+use Rattle.std.specs.Char.{IsScalar}
 use Rattle.std.specs.Cmp.Lexicographic.{pointwise}
 use Rattle.std.specs.Int.{Width, w8, w16, w32, w64}
 use Rattle.std.specs.List.{AllZip}
@@ -22,10 +23,10 @@ use Rattle.jzon.specs.Readers.{is_array, is_object, items, number_in, text_in, t
 use Rattle.jzon.specs.Same.{same}
 use Rattle.jzon.specs.Value.{Value, null, boolean, kind_of, number, text, array, object, values_of}
 use Rattle.jzon.specs.View.{view}
-use Rattle.jzon_typed.specs.Back.{back-bool, back-int, back-list, back-nat, back-number, back-option, back-pair, back-text, back-triple, back-value, entry-back}
-use Rattle.jzon_typed.specs.Back.{taken-bool, taken-int, taken-list, taken-nat, taken-number, taken-option, taken-pair, taken-text, taken-triple, entry-taken}
+use Rattle.jzon_typed.specs.Back.{back-bool, back-char, back-int, back-list, back-nat, back-number, back-option, back-pair, back-text, back-triple, back-value, entry-back}
+use Rattle.jzon_typed.specs.Back.{taken-bool, taken-char, taken-int, taken-list, taken-nat, taken-number, taken-option, taken-pair, taken-text, taken-triple, entry-taken}
 use Rattle.jzon_typed.specs.DecodeFields.{HasEntry}
-use Rattle.jzon_typed.specs.DecodeMaps.{IsArrayOf, ReadsEntries, ReadsItem, TakesEntries, TakesItem, TakesItems}
+use Rattle.jzon_typed.specs.DecodeMaps.{IsArrayOf, IsOneChar, ReadsEntries, ReadsItem, TakesEntries, TakesItem, TakesItems}
 use Rattle.jzon_typed.specs.MapLaws.{back-map, taken-map}
 use Rattle.jzon_typed.specs.Integers.{IsNatural, IsNaturalBelow, IsWhole, IsWholeOf}
 
@@ -136,6 +137,17 @@ string = record {
   equal = string_eq;
   back = back-text;
   taken = taken-text;
+}
+
+-- of `char`
+abbrev pub char : Codec ℕ
+char = record {
+  shows = λ c v. (v ≡ text (kind_of (encode_utf8 c)) (encode_utf8 c)) × IsScalar c;
+  gives = λ v c. text_in v ≡ Some (encode_utf8 c);
+  takes = IsOneChar;
+  equal = nat_eq;
+  back = back-char;
+  taken = taken-char;
 }
 
 -- of `Vec<T>`

@@ -1,7 +1,8 @@
--- Lists and maps that are read from the elements of an array and the entries of an object.
-use Rattle.std.specs.Prelude.{◌≡◌, ℕ, List, Option, None, Some, MatchOption, slice_get, true}
+-- Characters, and lists and maps that are read from the elements of an array and the entries of an object.
+use Rattle.std.specs.Prelude.{◌≡◌, ℕ, List, Option, None, Some, MatchOption, slice_get, encode_utf8, true}
+use Rattle.std.specs.Char.{IsScalar}
 use Rattle.jzon.specs.PairList.{find}
-use Rattle.jzon.specs.Readers.{count, entries, is_array, is_object, items}
+use Rattle.jzon.specs.Readers.{count, entries, is_array, is_object, items, text_in}
 use Rattle.jzon.specs.Value.{Value}
 
 -- what is looked up by the bytes of each key was read from the value of that key, if the object has one
@@ -16,6 +17,10 @@ ReadsItem v i G x = (w : Value) × (slice_get (items v) i ≡ Some w) × G w x
 -- there is an element at this index, and it is taken
 abbrev pub TakesItem : Value → ℕ → (Value → Type 0) → Type 0
 TakesItem v i takes = (w : Value) × (slice_get (items v) i ≡ Some w) × takes w
+
+-- a string of one character
+abbrev pub IsOneChar : Value → Type 0
+IsOneChar v = (c : ℕ) × IsScalar c × (text_in v ≡ Some (encode_utf8 c))
 
 -- an array of this many elements
 abbrev pub IsArrayOf : ℕ → Value → Type 0

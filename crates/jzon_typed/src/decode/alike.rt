@@ -4,8 +4,8 @@ ghost use Rattle.std.specs.Prelude.{◌^◌};
 ghost use Rattle.std.specs.Int.{w8, w16, w32, w64};
 ghost use Rattle.jzon_typed.specs.Integers.{EqualIntegers};
 ghost use Rattle.jzon_typed.specs.Alike.{AlikeBy, TakenAlike};
-ghost use Rattle.jzon_typed.specs.AlikeLaws.{alike-bool, alike-int, alike-list, alike-nat, alike-number, alike-option, alike-pair, alike-text, alike-triple, alike-value};
-ghost use Rattle.jzon_typed.specs.AlikeLaws.{taken-alike-bool, taken-alike-int, taken-alike-list, taken-alike-nat, taken-alike-number, taken-alike-option, taken-alike-pair, taken-alike-text, taken-alike-triple};
+ghost use Rattle.jzon_typed.specs.AlikeLaws.{alike-bool, alike-char, alike-int, alike-list, alike-nat, alike-number, alike-option, alike-pair, alike-text, alike-triple, alike-value};
+ghost use Rattle.jzon_typed.specs.AlikeLaws.{taken-alike-bool, taken-alike-char, taken-alike-int, taken-alike-list, taken-alike-nat, taken-alike-number, taken-alike-option, taken-alike-pair, taken-alike-text, taken-alike-triple};
 ghost use Rattle.jzon_typed.specs.MapLaws.{alike-map, taken-alike-map};
 
 use super::FromJson;
@@ -111,6 +111,12 @@ impl ReadsAlike for String {
     ghost alike = { λ _. alike-text };
 
     ghost taken_alike = { λ _. taken-alike-text };
+}
+
+impl ReadsAlike for char {
+    ghost alike = { λ _. alike-char };
+
+    ghost taken_alike = { λ _. taken-alike-char };
 }
 
 impl<T: ReadsAlike> ReadsAlike for Vec<T> {

@@ -1,6 +1,7 @@
 //! How the types of std are read.
 
-ghost use Rattle.std.specs.Prelude.{◌≡◌, ◌<◌, ◌^◌, ◌⊎◌, None, Some, string_bytes, true, false, FitsSigned, IfErr, IfOk, IsOk, IsSome, MatchOption};
+ghost use Rattle.std.specs.Prelude.{◌≡◌, ◌<◌, ◌^◌, ◌⊎◌, ℕ, None, Some, encode_utf8, string_bytes, true, false, FitsSigned, IfErr, IfOk, IfSome, IsOk, IsSome, MatchOption};
+ghost use Rattle.std.specs.Char.{IsScalar};
 ghost use Rattle.std.specs.Int.{w8, w16, w32, w64};
 ghost use Rattle.std.specs.List.{AllZip};
 ghost use Rattle.std.specs.BTreeMap as tree;
@@ -11,7 +12,7 @@ ghost use Rattle.jzon.specs.Value.{null};
 ghost use Rattle.jzon.specs.View.{view};
 ghost use Rattle.jzon_typed.specs.Decode.{IsErrorIn};
 ghost use Rattle.jzon_typed.specs.DecodeExpected.{Refuses};
-ghost use Rattle.jzon_typed.specs.DecodeMaps.{IsArrayOf, ReadsEntries, ReadsItem, TakesEntries, TakesItem, TakesItems};
+ghost use Rattle.jzon_typed.specs.DecodeMaps.{IsArrayOf, IsOneChar, ReadsEntries, ReadsItem, TakesEntries, TakesItem, TakesItems};
 ghost use Rattle.jzon_typed.specs.Integers.{may_be_cut_in, natural_in, whole_in, IsNatural, IsNaturalBelow, IsWhole, IsWholeOf};
 
 use super::elements::check_len;
@@ -96,6 +97,18 @@ impl FromJson for String {
             Some(text) => Ok(String::from_str(alloc, text)?),
             None => Err(wrong(alloc, value, Expected::String)),
         }
+    }
+}
+
+/// A string of exactly one character.
+impl FromJson for char {
+    ghost gives = { λ v c. text_in v ≡ Some (encode_utf8 c) };
+
+    ghost takes = { IsOneChar };
+
+    fn from_json(alloc: Global, value: &JsonValue) -> Result<char, Error> {
+        let expected = Expected::Other("a string of one character");
+        or_wrong(alloc, value, char_in(value), expected)
     }
 }
 
@@ -319,6 +332,27 @@ impl<T: FromJson> FromJson for BTreeMap<String, T> {
             map.insert(String::from_str(alloc, key)?, entry)?;
         }
         Ok(map)
+    }
+}
+
+/// The character of a string that has exactly one.
+fn char_in(value: &JsonValue) -> Option<char>
+    ensures some { IfSome result (λ c. text_in (view value.now) ≡ Some (encode_utf8 c)) }
+    ensures one { IsOneChar (view value.now) → IsSome result }
+{
+    only_char(value.as_str()?)
+}
+
+/// The character of a text that has exactly one.
+fn only_char(text: &str) -> Option<char>
+    ensures some { IfSome result (λ c. text.now ≡ encode_utf8 c) }
+    ensures one { (c : ℕ) → IsScalar c → text.now ≡ encode_utf8 c → IsSome result }
+{
+    let mut chars = text.chars();
+    let first = chars.next()?;
+    match chars.next() {
+        Some(_second) => None,
+        None => Some(first),
     }
 }
 

@@ -1,10 +1,10 @@
 //! What is written is read back as an equal value.
 
-ghost use Rattle.std.specs.Prelude.{◌≡◌, ◌^◌, ◌∷◌, [], true, string_bytes, IfOk, IsOkUnless};
+ghost use Rattle.std.specs.Prelude.{◌≡◌, ◌^◌, ◌∷◌, [], true, encode_utf8, string_bytes, IfOk, IsOkUnless};
 ghost use Rattle.std.specs.Int.{w8, w16, w32, w64};
 ghost use Rattle.jzon.specs.Value.{Value, null};
-ghost use Rattle.jzon_typed.specs.Back.{back-bool, back-int, back-list, back-nat, back-number, back-option, back-pair, back-text, back-triple, back-value};
-ghost use Rattle.jzon_typed.specs.Back.{taken-bool, taken-int, taken-list, taken-nat, taken-number, taken-option, taken-pair, taken-text, taken-triple, no-array, no-boolean, no-list, no-number, no-text};
+ghost use Rattle.jzon_typed.specs.Back.{back-bool, back-char, back-int, back-list, back-nat, back-number, back-option, back-pair, back-text, back-triple, back-value};
+ghost use Rattle.jzon_typed.specs.Back.{taken-bool, taken-char, taken-int, taken-list, taken-nat, taken-number, taken-option, taken-pair, taken-text, taken-triple, no-array, no-boolean, no-list, no-number, no-text};
 ghost use Rattle.jzon_typed.specs.MapLaws.{back-map, no-map, taken-map};
 ghost use Rattle.jzon_pointer.specs.Errors.{memory};
 
@@ -132,6 +132,12 @@ impl ReadsBack for String {
     ghost taken = { taken-text };
 }
 
+impl ReadsBack for char {
+    ghost back = { back-char };
+
+    ghost taken = { taken-char };
+}
+
 impl<T: ReadsBack> ReadsBack for Vec<T> {
     ghost back = { λ x y. back-list T.ToJson.shows T.FromJson.gives T.PartialEq.eq T.back x.items y.items };
 
@@ -221,6 +227,10 @@ impl NotNull for Number {
 
 impl NotNull for String {
     ghost not_null = { λ s. no-text _ (string_bytes s) };
+}
+
+impl NotNull for char {
+    ghost not_null = { λ c h. no-text _ (encode_utf8 c) h.0 };
 }
 
 impl<T: ToJson> NotNull for Vec<T> {

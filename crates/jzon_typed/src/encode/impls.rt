@@ -1,7 +1,8 @@
 //! How the types of std are written.
 
-ghost use Rattle.std.specs.Prelude.{◌≡◌, ◌<◌, ◌^◌, ◌∷◌, [], pos, string_bytes, FitsSigned, IfOk, IsOkUnless};
+ghost use Rattle.std.specs.Prelude.{◌≡◌, ◌<◌, ◌^◌, ◌∷◌, [], encode_utf8, pos, string_bytes, FitsSigned, IfOk, IsOkUnless};
 ghost use Rattle.std.specs.BTreeMap as tree;
+ghost use Rattle.std.specs.Char.{IsScalar};
 ghost use Rattle.std.specs.Int.{w8, w16, w32, w64};
 ghost use Rattle.std.specs.String.{string_cmp};
 ghost use Rattle.jzon.specs.Decimal.{integer_parts};
@@ -37,6 +38,16 @@ impl ToJson for &str {
 
     fn to_json(&self, alloc: Global) -> Result<JsonValue> {
         (*self).into_json(alloc)
+    }
+}
+
+/// The string of the character.
+impl ToJson for char {
+    ghost shows = { λ c v. (v ≡ text (kind_of (encode_utf8 c)) (encode_utf8 c)) × IsScalar c };
+
+    fn to_json(&self, alloc: Global) -> Result<JsonValue> {
+        let mut bytes = [0; 4];
+        self.encode_utf8(&mut bytes).into_json(alloc)
     }
 }
 
