@@ -15,7 +15,7 @@ use Rattle.jzon.specs.Value.{Value}
 use Rattle.jzon.specs.View.{view_object}
 use Rattle.jzon_typed.specs.DecodeFields.{HasEntry}
 use Rattle.jzon_typed.specs.DecodeMaps.{TakesEntries}
-use Rattle.jzon_typed.proofs.FieldSteps.{keys-seen}
+use Rattle.jzon_typed.proofs.FieldSteps.{keys-seen, some_other}
 
 -- the entries of all keys but some are read
 abbrev pub ReadsBut : {X : Type 0} → (Value → X → Type 0) → Value → List (List ℕ) → (List ℕ → Option X) → Type 0
@@ -71,14 +71,10 @@ one-read G v key bytes keys rest look new x before next read same is = λ k.
 abbrev pub AreThere : Value → List (List ℕ) → Type 0
 AreThere v rest = AllByRecursion (λ k. is_some (find k (entries v)) ≡ true) rest
 
-there_by : (b : Bool) (v : Value) (o : Option Value) → is_some o ≡ true → is_some (if b then Some v else o) ≡ true
-there_by true v o h = refl
-there_by false v o h = h
-
 there_still : (p : List ℕ × Value) (ps : List (List ℕ × Value)) (ks : List (List ℕ))
     → AllByRecursion (λ k. is_some (find k ps) ≡ true) ks → AllByRecursion (λ k. is_some (find k (p ∷ ps)) ≡ true) ks
 there_still p ps [] h = tt
-there_still p ps (k ∷ ks) h = (there_by (bytes_eq p.0 k) p.1 (find k ps) h.0, there_still p ps ks h.1)
+there_still p ps (k ∷ ks) h = (some_other (bytes_eq p.0 k) p.1 (find k ps) h.0, there_still p ps ks h.1)
 
 there : (ps : List (List ℕ × Value)) → AllByRecursion (λ k. is_some (find k ps) ≡ true) (keys_of ps)
 there [] = tt

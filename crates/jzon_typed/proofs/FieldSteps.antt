@@ -35,7 +35,7 @@ pub ruleset absent = (null-is, absent-none, absent-null)
 
 -- ---- the first key that isn't among some names
 
-some_other : (b : Bool) (v : Value) (o : Option Value) → is_some o ≡ true → is_some (if b then Some v else o) ≡ true
+pub some_other : (b : Bool) (v : Value) (o : Option Value) → is_some o ≡ true → is_some (if b then Some v else o) ≡ true
 some_other true v o h = refl
 some_other false v o h = h
 
