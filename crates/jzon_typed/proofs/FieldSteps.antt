@@ -11,19 +11,12 @@ use Rattle.jzon.specs.PairList.{find, keys_of}
 use Rattle.jzon.specs.Entries.{entries_of}
 use Rattle.jzon.specs.Object.{Object}
 use Rattle.jzon.specs.Readers.{entries, is_null}
-use Rattle.jzon.specs.Value.{Value, null, boolean, text, number, array, object}
+use Rattle.jzon.specs.Value.{Value}
 use Rattle.jzon.specs.JsonValue.{JsonValue}
 use Rattle.jzon.specs.View.{view, view_object, viewed}
 use Rattle.jzon.proofs.ValueLaws.{keys-viewed, list_of_pairs-pairs_of}
+use Rattle.jzon_typed.specs.AlikeLaws.{null-is}
 use Rattle.jzon_typed.specs.DecodeFields.{IsAbsent}
-
-pub null-is : (v : Value) → is_null v ≡ true → v ≡ null
-null-is null h = refl
-null-is (boolean b) h = absurd (cc)
-null-is (text k s) h = absurd (cc)
-null-is (number n) h = absurd (cc)
-null-is (array vs) h = absurd (cc)
-null-is (object ps) h = absurd (cc)
 
 pub absent-none : (o : Option Value) → o ≡ None → IsAbsent o
 absent-none o h = inl h
@@ -35,6 +28,7 @@ pub ruleset absent = (null-is, absent-none, absent-null)
 
 -- ---- the first key that isn't among some names
 
+-- a look-up that finds something in the rest finds something
 pub some_other : (b : Bool) (v : Value) (o : Option Value) → is_some o ≡ true → is_some (if b then Some v else o) ≡ true
 some_other true v o h = refl
 some_other false v o h = h

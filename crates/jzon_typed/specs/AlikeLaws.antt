@@ -31,9 +31,7 @@ use Rattle.jzon_typed.specs.Integers.{EqualIntegers, may_be_cut_in, natural_of, 
 
 -- ---- what holds of equal values, by their kind
 
--- a statement of two equal values, from what it says of each kind
 module _ (P : Value → Value → Type 0) where
-  -- then it holds of any two that are equal
   pub by-same : P null null → ((b : Bool) → P (boolean b) (boolean b)) → ((j k : Kind) (s : List ℕ) → P (text j s) (text k s))
       → ((d e : Decimal) → same_decimal d e ≡ true → P (number d) (number e))
       → ((vs ws : Values) → same_items vs ws ≡ true → P (array vs) (array ws))
@@ -229,7 +227,8 @@ taken-alike-list P taken v w h cut (is, each) = (
       taken there.0 u (swap u there.0 there.2) (uncut-item w cut i u at) (each i there.0 there.1),
 )
 
-null-is : (v : Value) → is_null v ≡ true → v ≡ null
+-- the value is null if the reader says so
+pub null-is : (v : Value) → is_null v ≡ true → v ≡ null
 null-is null h = refl
 null-is (boolean b) h = absurd (false≢true h)
 null-is (text k s) h = absurd (false≢true h)
