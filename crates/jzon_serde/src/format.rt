@@ -191,8 +191,11 @@ impl<'v> Format for TreeFormat<'v> {
     }
 
     fn char(&mut self, _input: &[u8]) -> Result<char, Fault> {
-        match self.text()?.parse::<char>() {
+        let is_key = matches!(self.place.due, Due::Key(_, _));
+        let text = self.text()?;
+        match text.parse::<char>() {
             Ok(c) => Ok(c),
+            Err(_) if is_key => Err(self.wrong_key("one character", text)),
             Err(_) => Err(self.expected(Expected::Other("one character"))),
         }
     }

@@ -40,7 +40,8 @@ pub(crate) fn number_of(text: &str) -> Option<Number> {
         return None;
     }
     let fraction = numeral.fraction();
-    let mantissa = with_digits(with_digits(0, numeral.whole())?, fraction)?;
+    let (whole, zeros) = whole_part(numeral.whole(), fraction)?;
+    let mantissa = with_digits(whole, fraction)?;
     let exponent = i64::try_from(with_digits(0, numeral.exponent())?).ok()?;
     let shift = i64::try_from(fraction.len()).ok()?;
     let signed = if numeral.is_exponent_negative() {
@@ -48,8 +49,21 @@ pub(crate) fn number_of(text: &str) -> Option<Number> {
     } else {
         exponent
     };
-    let exponent = i16::try_from(signed.checked_sub(shift)?).ok()?;
+    let exponent = i16::try_from(signed.checked_sub(shift)?.checked_add(zeros)?).ok()?;
     Some(Number::from_parts_unchecked(positive, mantissa, exponent))
+}
+
+/// The digits before a point as a number, and 0; from 2^64 on, if no fraction follows, without a zero
+/// at their end, and 1. A number is printed with at most 20 digits, of which the last may be a zero
+/// for its exponent.
+fn whole_part(whole: &[u8], fraction: &[u8]) -> Option<(u64, i64)> {
+    if let Some(value) = with_digits(0, whole) {
+        return Some((value, 0));
+    }
+    match whole.split_last()? {
+        (b'0', before) if fraction.is_empty() => Some((with_digits(0, before)?, 1)),
+        _ => None,
+    }
 }
 
 /// The number with these digits after its own, or `None` from 2^64 on. Nothing is required of the

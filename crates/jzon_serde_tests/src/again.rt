@@ -65,6 +65,7 @@ fn other(alloc: Global, kind: &str, text: &str) -> Option<Read> {
         "ids" => Some(written::<BTreeMap<i32, bool>>(alloc, text)),
         "levels" => Some(written::<BTreeMap<Level, u8>>(alloc, text)),
         "flags" => Some(written::<BTreeMap<bool, u8>>(alloc, text)),
+        "characters" => Some(written::<BTreeMap<char, u8>>(alloc, text)),
         "Exact" => Some(written::<Exact>(alloc, text)),
         "Json" => Some(written::<Json>(alloc, text)),
         _ => None,
