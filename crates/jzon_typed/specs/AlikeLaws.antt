@@ -31,7 +31,9 @@ use Rattle.jzon_typed.specs.Integers.{EqualIntegers, may_be_cut_in, natural_of, 
 
 -- ---- what holds of equal values, by their kind
 
+-- a statement of two equal values, from what it says of each kind
 module _ (P : Value → Value → Type 0) where
+  -- then it holds of any two that are equal
   pub by-same : P null null → ((b : Bool) → P (boolean b) (boolean b)) → ((j k : Kind) (s : List ℕ) → P (text j s) (text k s))
       → ((d e : Decimal) → same_decimal d e ≡ true → P (number d) (number e))
       → ((vs ws : Values) → same_items vs ws ≡ true → P (array vs) (array ws))
