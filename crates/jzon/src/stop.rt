@@ -1,10 +1,11 @@
 //! Why the parser stops before the end of a text, and the error that is returned for it
 //! (docs/RULES.md, "Which error is reported").
 
-ghost use Rattle.std.specs.Prelude.{◌≡◌, drop, chars};
+ghost use Rattle.std.specs.Prelude.{◌≡◌, ◌≢◌, SomeIff, drop, chars};
 ghost use Rattle.std.specs.Str.{IsCharBoundary};
 ghost use Rattle.jzon.specs.Private.Machine.{Reports, fault_here};
-ghost use Rattle.jzon.specs.Private.Stops.{IsAtBoundary, reported_error, stop_place};
+ghost use Rattle.jzon.specs.Private.Stops.{IsAtBoundary, reported_error, stop_offset, stop_place};
+ghost use Rattle.jzon.specs.declared.stop.Stop.TheVariants.{Memory};
 
 use crate::located::LocatedError;
 use crate::place::Place;
@@ -63,37 +64,43 @@ impl Stop {
         ensures error { result.error ≡ reported_error source.now self }
         ensures place { result.place ≡ stop_place source.now self }
     {
-        let (error, place) = match self {
-            Stop::Memory => {
-                return LocatedError {
-                    error: Error::OutOfMemory,
-                    place: None,
-                };
-            }
-            Stop::Limit(i) => (Error::ExceededDepthLimit, Place::at_boundary(source, i)),
-            Stop::Surrogates(i) => (Error::FailedUtf8Parsing, Place::at_boundary(source, i)),
-            Stop::At(i) => {
-                let place = Place::at_boundary(source, i);
-                let Place { line, column, .. } = place;
-                match source[i..].chars().next() {
-                    None => (Error::UnexpectedEndOfJson, place),
-                    Some(ch) => (Error::UnexpectedCharacter { ch, line, column }, place),
-                }
-            }
-            Stop::Duplicate(i) => {
-                let place = Place::at_boundary(source, i);
-                let Place { line, column, .. } = place;
-                (Error::DuplicateKey { line, column }, place)
-            }
-            Stop::Inexact(i) => {
-                let place = Place::at_boundary(source, i);
-                let Place { line, column, .. } = place;
-                (Error::InexactNumber { line, column }, place)
-            }
+        let Some(offset) = self.offset() else {
+            return LocatedError {
+                error: Error::OutOfMemory,
+                place: None,
+            };
+        };
+        let place = Place::at_boundary(source, offset);
+        let Place { line, column, .. } = place;
+        let error = match self {
+            Stop::Memory => Error::OutOfMemory,
+            Stop::Limit(_) => Error::ExceededDepthLimit,
+            Stop::Surrogates(_) => Error::FailedUtf8Parsing,
+            Stop::At(_) => match source[offset..].chars().next() {
+                None => Error::UnexpectedEndOfJson,
+                Some(ch) => Error::UnexpectedCharacter { ch, line, column },
+            },
+            Stop::Duplicate(_) => Error::DuplicateKey { line, column },
+            Stop::Inexact(_) => Error::InexactNumber { line, column },
         };
         LocatedError {
             error,
             place: Some(place),
+        }
+    }
+
+    /// Its offset in the text, unless an allocation failed.
+    #[inline(always)]
+    fn offset(self) -> Option<usize>
+        ensures { SomeIff result (self ≢ Memory) (stop_offset self) }
+    {
+        match self {
+            Stop::Memory => None,
+            Stop::Limit(i)
+            | Stop::Surrogates(i)
+            | Stop::At(i)
+            | Stop::Duplicate(i)
+            | Stop::Inexact(i) => Some(i),
         }
     }
 }
