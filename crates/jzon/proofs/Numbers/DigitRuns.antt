@@ -47,6 +47,20 @@ module _ (r : Reading) (at : List ℕ → State) (breach : List ℕ → Option B
         next_clear breach ds e es p h.2 (omega (arith, at_p)),
       ) (collect_up_to b (e ∷ ds) es rest p i ok.1 h (omega (arith, at_p)))
 
+  -- from a state that goes on to the first digit as if it had collected none
+  module _ (p : State) (begins : (c : ℕ) (rest : List ℕ) → IsTrue (is_ascii_digit c)
+      → outcome r (c ∷ rest) p ≡ outcome r (c ∷ rest) (at [])) where
+    read_from : (es rest : List ℕ) → IsDigits es → AreUnmarked breach es
+        → outcome r (es ++ rest) p ≡ outcome r rest (at (onto es []))
+    read_from [] rest ok h = absurd ok
+    read_from (e ∷ es) rest ok h = begins e (es ++ rest) ok.0 ∙ collect_all [] (e ∷ es) rest ok h
+
+    refuse_from : (b : Breach) (es rest : List ℕ) (i : ℕ) → IsDigits es → IsFirstMarked breach b es i
+        → outcome r (es ++ rest) p ≡ refused (limit b) (drop i es ++ rest)
+    refuse_from b [] rest i ok h = absurd ok
+    refuse_from b (e ∷ es) rest i ok h =
+        begins e (es ++ rest) ok.0 ∙ collect_up_to b [] (e ∷ es) rest i i ok h (omega arith)
+
 module _ (r : Reading) (fs : Frames) (negative : Bool) where
   abbrev N : NumberState → State
   N x = numeral fs negative x
@@ -65,78 +79,47 @@ module _ (r : Reading) (fs : Frames) (negative : Bool) where
 
   -- ---- fraction digits
 
-  -- the first digit after the point
-  at_point : (ws : List ℕ) (c : ℕ) (rest : List ℕ) → IsTrue (is_ascii_digit c)
-      → outcome r (c ∷ rest) (N (pointed ws)) ≡ outcome r (c ∷ rest) (N (fraction ws []))
-  at_point ws c rest h = rw (digits-class r.strict c h) refl
-
   pub read_fraction : (ws es rest : List ℕ) → IsDigits es → AreUnmarked (fraction_breach r ws) es
       → outcome r (es ++ rest) (N (pointed ws)) ≡ outcome r rest (N (fraction ws (onto es [])))
-  read_fraction ws [] rest ok h = absurd ok
-  read_fraction ws (e ∷ es) rest ok h =
-      at_point ws e (es ++ rest) ok.0 ∙ collect_all r (λ ds. N (fraction ws ds)) (fraction_breach r ws)
-      (λ xs c left h. rw (digits-class r.strict c h) refl) [] (e ∷ es) rest ok h
+  read_fraction ws = read_from r (λ ds. N (fraction ws ds)) (fraction_breach r ws)
+      (λ xs c left h. rw (digits-class r.strict c h) refl) (N (pointed ws)) (λ c rest h. rw (digits-class r.strict c h) refl)
 
   pub refuse_fraction : (b : Breach) (ws es rest : List ℕ) (i : ℕ) → IsDigits es
       → IsFirstMarked (fraction_breach r ws) b es i
       → outcome r (es ++ rest) (N (pointed ws)) ≡ refused (limit b) (drop i es ++ rest)
-  refuse_fraction b ws [] rest i ok h = absurd ok
-  refuse_fraction b ws (e ∷ es) rest i ok h =
-      at_point ws e (es ++ rest) ok.0 ∙ collect_up_to r (λ ds. N (fraction ws ds)) (fraction_breach r ws)
-      (λ xs c left h. rw (digits-class r.strict c h) refl) b [] (e ∷ es) rest i i ok h (omega arith)
+  refuse_fraction b ws = refuse_from r (λ ds. N (fraction ws ds)) (fraction_breach r ws)
+      (λ xs c left h. rw (digits-class r.strict c h) refl) (N (pointed ws))
+      (λ c rest h. rw (digits-class r.strict c h) refl) b
 
-  -- ---- exponent digits
+  -- ---- exponent digits, after the letter or after a sign
 
   abbrev E : List ℕ → List ℕ → ℕ → Sign → List ℕ → State
   E ws gs l s ds = N (exponent ws gs l s ds)
 
-  -- the first digit after the letter, and after a sign
-  at_letter : (ws gs : List ℕ) (l c : ℕ) (rest : List ℕ) → IsTrue (is_ascii_digit c)
-      → outcome r (c ∷ rest) (N (after_letter ws gs l)) ≡ outcome r (c ∷ rest) (E ws gs l unsigned [])
-  at_letter ws gs l c rest h = rw (digits-class r.strict c h) refl
-
-  at_sign : (ws gs : List ℕ) (l : ℕ) (s : Sign) (c : ℕ) (rest : List ℕ) → IsTrue (is_ascii_digit c)
-      → outcome r (c ∷ rest) (N (signed_exponent ws gs l s)) ≡ outcome r (c ∷ rest) (E ws gs l s [])
-  at_sign ws gs l s c rest h = rw (digits-class r.strict c h) refl
-
-  read_exponent : (ws gs : List ℕ) (l : ℕ) (s : Sign) (es rest : List ℕ) → AreDigits es
-      → AreUnmarked (exponent_breach r ws gs s) es
-      → outcome r (es ++ rest) (E ws gs l s []) ≡ outcome r rest (E ws gs l s (onto es []))
-  read_exponent ws gs l s es rest ok h =
-      collect_all r (λ ds. E ws gs l s ds) (exponent_breach r ws gs s)
-      (λ xs c left h. rw (digits-class r.strict c h) refl) [] es rest ok h
-
-  refuse_exponent : (b : Breach) (ws gs : List ℕ) (l : ℕ) (s : Sign) (es rest : List ℕ) (i : ℕ) → AreDigits es
-      → IsFirstMarked (exponent_breach r ws gs s) b es i
-      → outcome r (es ++ rest) (E ws gs l s []) ≡ refused (limit b) (drop i es ++ rest)
-  refuse_exponent b ws gs l s es rest i ok h =
-      collect_up_to r (λ ds. E ws gs l s ds) (exponent_breach r ws gs s)
-      (λ xs c left h. rw (digits-class r.strict c h) refl) b [] es rest i i ok h (omega arith)
-
   pub read_unsigned_exponent : (ws gs : List ℕ) (l : ℕ) (es rest : List ℕ) → IsDigits es
       → AreUnmarked (exponent_breach r ws gs unsigned) es
       → outcome r (es ++ rest) (N (after_letter ws gs l)) ≡ outcome r rest (E ws gs l unsigned (onto es []))
-  read_unsigned_exponent ws gs l [] rest ok h = absurd ok
-  read_unsigned_exponent ws gs l (e ∷ es) rest ok h =
-      at_letter ws gs l e (es ++ rest) ok.0 ∙ read_exponent ws gs l unsigned (e ∷ es) rest ok h
+  read_unsigned_exponent ws gs l = read_from r (E ws gs l unsigned) (exponent_breach r ws gs unsigned)
+      (λ xs c left h. rw (digits-class r.strict c h) refl) (N (after_letter ws gs l))
+      (λ c rest h. rw (digits-class r.strict c h) refl)
 
   pub refuse_unsigned_exponent : (b : Breach) (ws gs : List ℕ) (l : ℕ) (es rest : List ℕ) (i : ℕ) → IsDigits es
       → IsFirstMarked (exponent_breach r ws gs unsigned) b es i
       → outcome r (es ++ rest) (N (after_letter ws gs l)) ≡ refused (limit b) (drop i es ++ rest)
-  refuse_unsigned_exponent b ws gs l [] rest i ok h = absurd ok
-  refuse_unsigned_exponent b ws gs l (e ∷ es) rest i ok h =
-      at_letter ws gs l e (es ++ rest) ok.0 ∙ refuse_exponent b ws gs l unsigned (e ∷ es) rest i ok h
+  refuse_unsigned_exponent b ws gs l = refuse_from r (E ws gs l unsigned) (exponent_breach r ws gs unsigned)
+      (λ xs c left h. rw (digits-class r.strict c h) refl) (N (after_letter ws gs l))
+      (λ c rest h. rw (digits-class r.strict c h) refl) b
 
   pub read_signed_exponent : (ws gs : List ℕ) (l : ℕ) (s : Sign) (es rest : List ℕ) → IsDigits es
       → AreUnmarked (exponent_breach r ws gs s) es
       → outcome r (es ++ rest) (N (signed_exponent ws gs l s)) ≡ outcome r rest (E ws gs l s (onto es []))
-  read_signed_exponent ws gs l s [] rest ok h = absurd ok
-  read_signed_exponent ws gs l s (e ∷ es) rest ok h =
-      at_sign ws gs l s e (es ++ rest) ok.0 ∙ read_exponent ws gs l s (e ∷ es) rest ok h
+  read_signed_exponent ws gs l s = read_from r (E ws gs l s) (exponent_breach r ws gs s)
+      (λ xs c left h. rw (digits-class r.strict c h) refl) (N (signed_exponent ws gs l s))
+      (λ c rest h. rw (digits-class r.strict c h) refl)
 
   pub refuse_signed_exponent : (b : Breach) (ws gs : List ℕ) (l : ℕ) (s : Sign) (es rest : List ℕ) (i : ℕ)
       → IsDigits es → IsFirstMarked (exponent_breach r ws gs s) b es i
       → outcome r (es ++ rest) (N (signed_exponent ws gs l s)) ≡ refused (limit b) (drop i es ++ rest)
-  refuse_signed_exponent b ws gs l s [] rest i ok h = absurd ok
-  refuse_signed_exponent b ws gs l s (e ∷ es) rest i ok h =
-      at_sign ws gs l s e (es ++ rest) ok.0 ∙ refuse_exponent b ws gs l s (e ∷ es) rest i ok h
+  refuse_signed_exponent b ws gs l s = refuse_from r (E ws gs l s) (exponent_breach r ws gs s)
+      (λ xs c left h. rw (digits-class r.strict c h) refl) (N (signed_exponent ws gs l s))
+      (λ c rest h. rw (digits-class r.strict c h) refl) b

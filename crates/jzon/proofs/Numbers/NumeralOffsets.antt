@@ -44,7 +44,7 @@ next_fails test bs i ascii u at h = over (chars (drop i bs)) refl
 
 -- ---- digits
 
-digit_bounds : (c : ℕ) → is_ascii_digit c ≡ true → IsDigit c
+pub digit_bounds : (c : ℕ) → is_ascii_digit c ≡ true → IsDigit c
 digit_bounds c e = (grind (arith, nat_tests), grind (arith, nat_tests))
 
 -- the text begins with the digits ds, and no digit follows them

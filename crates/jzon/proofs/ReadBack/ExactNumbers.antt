@@ -1,11 +1,10 @@
 -- What an exact reading reads of a number is all that its digits spell: no digit but 0 is dropped, and the exponent isn't
 -- clamped, so the value is the same.
 use Rattle.jzon_base.proofs.Common.{◌≡◌, ◌∙◌, ℕ, zero, suc, ℤ, pos, ◌+ℤ◌, ◌-ℤ◌, ◌+◌, ◌-◌, ◌*◌, ◌^◌, ◌≤◌, ◌<◌, List, []}
-use Rattle.jzon_base.proofs.Common.{◌∷◌, ◌++◌, length, take, drop, get_or, Bool, true, false, not, ◌&&◌, ◌==◌, Option}
+use Rattle.jzon_base.proofs.Common.{◌∷◌, ◌++◌, length, take, drop, get_or, Bool, true, false, Option}
 use Rattle.jzon_base.proofs.Common.{Some, None, refl, sym, ap, subst, arith, ints, clamps, inl, inr, cases_lt, cases_eq, fold}
 use Rattle.jzon_base.proofs.Common.{fold-append, take-append-drop, length-append, length-drop, pow-add}
-use Rattle.jzon_base.proofs.Common.{and_parts, get_or-drop, get_or_append_left, if◌then◌else◌}
-use Rattle.std.proofs.lemmas.List.{get_or-append-add}
+use Rattle.jzon_base.proofs.Common.{and_parts, get_or-drop, if◌then◌else◌}
 use Rattle.jzon_base.specs.Digits.{add_digit, digits_number, kept_len, kept, dropped, kept_fraction, own_power}
 use Rattle.jzon_base.specs.LostDigits.{HoldsOfNone, loses_last, is_out_of_range}
 use Rattle.jzon_base.proofs.Numbers.DigitPrefixes.{kept_len_is_longest}

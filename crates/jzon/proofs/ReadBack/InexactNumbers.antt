@@ -1,30 +1,30 @@
 -- A number that an exact reading rejects isn't exact as it is read: a dropped digit that isn't 0 makes its mantissa too
 -- large, whatever the exponent is, and an exponent that is clamped is another one.
 use Rattle.jzon_base.proofs.Common.{◌≡◌, ◌≢◌, ◌⊎◌, ◌∙◌, ℕ, zero, suc, ℤ, pos, negsuc, ◌+ℤ◌, ◌-ℤ◌, ◌+◌, ◌-◌, ◌*◌, ◌^◌, ◌≤◌, ◌<◌}
-use Rattle.jzon_base.proofs.Common.{List, [], ◌∷◌, ◌++◌, length, take, drop, get_or, Bool, true, false, ◌&&◌, ◌==◌, Option, Some, None}
-use Rattle.jzon_base.proofs.Common.{refl, sym, ap, subst, arith, ints, clamps, inl, inr, cases_lt, cases_eq, fold, if◌then◌else◌}
-use Rattle.jzon_base.proofs.Common.{fold-append, take-append-drop, length-append, length-drop, pow-add}
-use Rattle.jzon_base.proofs.Common.{is_ascii_digit, nat_tests, and_parts, get_or_append_left, mul-le-mul_right, one-le-pow}
-use Rattle.jzon_base.proofs.Common.{pow-le-pow_right, true≢false, FitsSigned, w16, slice_get, IsTrue}
-use Rattle.std.proofs.lemmas.List.{get_or-append-add}
-use Rattle.jzon_base.specs.Decimal.{parts}
-use Rattle.jzon_base.specs.Digits.{add_digit, digits_number, kept_len, kept, dropped, kept_fraction, clamp, own_power}
-use Rattle.jzon_base.specs.LostDigits.{HoldsOfNone, loses_last, is_out_of_range, leaves_range}
+use Rattle.jzon_base.proofs.Common.{List, [], ◌∷◌, ◌++◌, length, take, drop, get_or, Bool, true, false, ◌&&◌, Option, Some, None}
+use Rattle.jzon_base.proofs.Common.{refl, sym, ap, subst, arith, ints, inl, inr, cases_lt, fold, if◌then◌else◌}
+use Rattle.jzon_base.proofs.Common.{fold-append, take-append-drop, length-append, pow-add}
+use Rattle.jzon_base.proofs.Common.{and_parts, mul-le-mul_right, one-le-pow}
+use Rattle.jzon_base.proofs.Common.{pow-le-pow_right, FitsSigned, w16, slice_get}
+use Rattle.std.proofs.lemmas.List.Elements.{All-from_recursion}
+use Rattle.jzon_base.specs.Digits.{IsDigit, add_digit, digits_number, kept_len, kept, dropped, kept_fraction, clamp, own_power}
+use Rattle.jzon_base.specs.LostDigits.{HoldsOfNone, loses_last, leaves_range}
 use Rattle.jzon_base.proofs.Numbers.DigitPrefixes.{kept_len_is_longest}
 use Rattle.jzon_base.proofs.Numbers.LostDigits.{lost_so, out_so, prefix_le, one_more}
 use Rattle.jzon.specs.Reading.{Reading}
-use Rattle.jzon.specs.Grammar.{Sign, unsigned, plus, minus, Exponent, Numeral, Node, AreDigits, IsNumeral, IsWhole, IsExponent}
+use Rattle.jzon.specs.Grammar.{Sign, unsigned, plus, minus, Exponent, AreDigits, IsWhole}
 use Rattle.jzon.specs.Spelling.{Breach, digit, inexact, breach_if, Cell, cell, onto, digits_cells, whole_cells, fraction_cells}
 use Rattle.jzon.specs.Spelling.{sign_cells, exponent_cells, magnitude_cells, numeral_cells, whole_breach, fraction_breach, exponent_breach}
 use Rattle.jzon.specs.Meaning.{written_exponent, signed_exponent}
-use Rattle.jzon.specs.Exact.{AreEqualDecimals, IsExact, DifferByZeros, IsInexact, InexactNumbers}
+use Rattle.jzon.specs.Exact.{AreEqualDecimals, DifferByZeros, IsInexact, InexactNumbers}
 use Rattle.jzon.proofs.Texts.Cells.{marks_of}
 use Rattle.jzon.proofs.Numbers.NumberLimits.{AreUnmarked, up_to_next, length-onto, whole_mark, fraction_mark, whole_few}
 use Rattle.jzon.proofs.Numbers.NumberLimits.{fraction_few}
 use Rattle.jzon.proofs.Numbers.DigitRuns.{AreDigits-append}
-use Rattle.jzon.proofs.ReadBack.PrintedParts.{on_the_way}
+use Rattle.jzon.proofs.Numbers.NumeralOffsets.{digit_bounds}
+use Rattle.jzon.proofs.ReadBack.PrintedParts.{AllDigits, digits-drop, on_the_way}
 use Rattle.jzon.proofs.ReadBack.ExactNumbers.{value_kept, AreClearFrom, clear_from_next, digits_kept, first_below}
-use Rattle.jzon.proofs.ReadBack.TrailingZeros.{tenfold}
+use Rattle.jzon.proofs.ReadBack.TrailingZeros.{below_power, tenfold}
 use Rattle.jzon.proofs.ReadBack.UnmarkedCells.{no_mark}
 use Rattle.std.proofs.Math.Nat.{lt_of_mul-lt-mul_right}
 
@@ -65,43 +65,26 @@ apart (negsuc a) (negsuc b) = elim (cases_lt a b) [
 
 -- ---- digits
 
-digit_bounds : (c : ℕ) → is_ascii_digit c ≡ true → (48 ≤ c) × (c ≤ 57)
-digit_bounds c h = (grind (arith, nat_tests, h), grind (arith, nat_tests, h))
-
-digit_at : (ds : List ℕ) (i : ℕ) → AreDigits ds → i < length ds → (48 ≤ get_or ds i 0) × (get_or ds i 0 ≤ 57)
-digit_at [] i ok within = absurd (omega (arith, within))
-digit_at (d ∷ ds) zero ok within = digit_bounds d ok.0
-digit_at (d ∷ ds) (suc i) ok within = digit_at ds i ok.1 (omega (arith, within))
-
-digits-drop : (n : ℕ) (ds : List ℕ) → AreDigits ds → AreDigits (drop n ds)
-digits-drop zero [] ok = tt
-digits-drop zero (d ∷ ds) ok = ok
-digits-drop (suc n) [] ok = tt
-digits-drop (suc n) (d ∷ ds) ok = digits-drop n ds ok.1
+all_digits : (ds : List ℕ) → AreDigits ds → AllDigits ds
+all_digits [] ok = tt
+all_digits (d ∷ ds) ok = (digit_bounds d ok.0, all_digits ds ok.1)
 
 whole_digits : (ws : List ℕ) → IsWhole ws → AreDigits ws
 whole_digits [] ok = absurd ok
 whole_digits (d ∷ []) ok = (ok, tt)
 whole_digits (d ∷ e ∷ ds) ok = ((and_parts _ _ ok.0).0, ok.1)
 
--- a number is at least that of its first digits with zeros, and below that of the next one with zeros
+-- a number is at least that of its first digits with zeros
 from_prefix : (v : ℕ) (ds : List ℕ) → v * 10 ^ length ds ≤ fold add_digit v ds
 from_prefix v [] = omega arith
 from_prefix v (c ∷ cs) =
     let step = mul-le-mul_right {m = v * 10} {n = add_digit v c} (10 ^ length cs) (omega arith) in
     omega (arith, step, tenfold v (length cs), from_prefix (add_digit v c) cs)
 
-below_next : (v : ℕ) (ds : List ℕ) → AreDigits ds → fold add_digit v ds < (v + 1) * 10 ^ length ds
-below_next v [] ok = omega arith
-below_next v (c ∷ cs) ok =
-    let step = mul-le-mul_right {m = add_digit v c + 1} {n = (v + 1) * 10} (10 ^ length cs)
-    (omega (arith, digit_bounds c ok.0)) in
-    omega (arith, step, tenfold (v + 1) (length cs), below_next (add_digit v c) cs ok.1)
-
 -- ---- a lost digit
 
 -- The digits up to a lost one don't fit, and the last of them isn't 0, so no other mantissa has their value.
-module _ (ds : List ℕ) (ok : AreDigits ds) (p : ℕ) (within : p < length ds)
+module _ (ds : List ℕ) (ok : AllDigits ds) (p : ℕ) (within : p < length ds)
     (lost : loses_last (take (suc p) ds) ≡ true) where
   abbrev start : ℕ
   start = digits_number (take (suc p) ds)
@@ -120,7 +103,7 @@ module _ (ds : List ℕ) (ok : AreDigits ds) (p : ℕ) (within : p < length ds)
   low = omega (arith, split, from_prefix start (drop (suc p) ds))
 
   high : digits_number ds < start * 10 ^ others + 10 ^ others
-  high = omega (arith, split, below_next start (drop (suc p) ds) (digits-drop (suc p) ds ok))
+  high = omega (arith, split, below_power start (drop (suc p) ds) (digits-drop (suc p) ds ok))
 
   -- with zeros after the number
   none_above : (m k : ℕ) → m < 2 ^ 64 → m ≡ digits_number ds * 10 ^ k → ⊥
@@ -145,12 +128,13 @@ module _ (ds : List ℕ) (ok : AreDigits ds) (p : ℕ) (within : p < length ds)
         let is : m * 10 ^ suc t * 10 ^ others ≡ digits_number ds = omega (arith, powers, same) in
         let top : m * 10 ^ suc t ≡ start =
         at_multiple (m * 10 ^ suc t) start (10 ^ others) (omega (arith, is, low)) (omega (arith, is, high)) in
+        let digit : IsDigit (get_or ds p 0) = All-from_recursion IsDigit ds ok p 0 within in
         let some : 48 < get_or ds p 0 =
         elim (cases_lt 48 (get_or ds p 0)) [
           | inl more ↦ more
-          | inr less ↦ absurd ((lost_so ds p within lost).1 (omega (arith, less, digit_at ds p ok within)))
+          | inr less ↦ absurd ((lost_so ds p within lost).1 (omega (arith, less, digit)))
         ] in
-        omega (arith, top, tenfold m t, one_more ds p within, some, digit_at ds p ok within))
+        omega (arith, top, tenfold m t, one_more ds p within, some, digit))
     | inr few ↦
         (let more = mul-le-mul_right {m = 10 ^ j} {n = 10 ^ others} start
         (pow-le-pow_right {n = 10} (omega arith) {i = j} {j = others} few) in
@@ -178,10 +162,10 @@ lost_inexact ws fs x p ok within lost positive m e fits range exact =
     absurd (elim k.1 [
       | inl above ↦
           (let same = exact 0 k.0 (omega (arith, ints, above)) in
-          none_above ds ok p within lost m k.0 fits (omega (arith, same)))
+          none_above ds (all_digits ds ok) p within lost m k.0 fits (omega (arith, same)))
       | inr below ↦
           (let same = exact k.0 0 (omega (arith, ints, below)) in
-          none_below ds ok p within lost m k.0 fits (omega (arith, same)))
+          none_below ds (all_digits ds ok) p within lost m k.0 fits (omega (arith, same)))
     ])
 
 -- ---- an exponent that is clamped
@@ -332,14 +316,14 @@ module _ (r : Reading) (d : ℕ) (es : List ℕ) (ok : IsWhole (d ∷ es)) (fs :
         | inr after ↦ absurd after.1
       ]
 
-  all_digits : AreDigits (ws ++ fs)
-  all_digits = AreDigits-append ws fs (whole_digits ws ok) fs_ok
+  digits_ok : AreDigits (ws ++ fs)
+  digits_ok = AreDigits-append ws fs (whole_digits ws ok) fs_ok
 
   fraction_first : (x : Option Exponent) → AreClearFrom (whole_breach r) ws 1
       → HasInexact (fraction_breach r ws) fs ⊎ (AreUnmarked (fraction_breach r ws) fs × FirstInexact (exponent_cells r ws fs x []))
       → Inexact ws fs (written_exponent x)
   fraction_first x whole (inl found) =
-      lost_inexact ws fs (written_exponent x) (length ws + found.0) all_digits
+      lost_inexact ws fs (written_exponent x) (length ws + found.0) digits_ok
       (omega (arith, found.1, length-append ws fs))
       (marked_so _ r.exact _ (sym (fraction_mark r ws fs found.0 found.1) ∙ found.2)).1
   fraction_first x whole (inr rest) = exponent_first x whole rest.0 rest.1
@@ -353,7 +337,7 @@ magnitude_first r (d ∷ es) fs x ok fs_ok h =
     (past d _ h)) [
       | inl found ↦
           (let mark = sym (whole_mark r (d ∷ es) fs found.0 found.1) ∙ found.2 in
-          lost_inexact (d ∷ es) fs (written_exponent x) found.0 (all_digits r d es ok fs fs_ok)
+          lost_inexact (d ∷ es) fs (written_exponent x) found.0 (digits_ok r d es ok fs fs_ok)
           (omega (arith, found.1, length-append (d ∷ es) fs)) (marked_so _ r.exact _ mark).1)
       | inr rest ↦ fraction_first r d es ok fs fs_ok x rest.0
           (fraction_digits r (d ∷ es) fs (exponent_cells r (d ∷ es) fs x []) rest.1)

@@ -139,7 +139,7 @@ last_zero w prefix n size all split i within = held_if w i within (λ past.
     let at : i ≡ length prefix = omega (arith, len, size, all) in
     rw at (ap (λ l. get_or l (length prefix) 0) split ∙ get_or-append_seam prefix 48 [] 0))
 
-below_power : (v : ℕ) (ds : List ℕ) → AllDigits ds → fold add_digit v ds < (v + 1) * 10 ^ length ds
+pub below_power : (v : ℕ) (ds : List ℕ) → AllDigits ds → fold add_digit v ds < (v + 1) * 10 ^ length ds
 below_power v [] all = omega arith
 below_power v (c ∷ cs) all =
     let more : add_digit v c + 1 ≤ (v + 1) * 10 = omega (arith, all.0) in

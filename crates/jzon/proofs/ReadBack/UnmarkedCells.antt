@@ -3,7 +3,7 @@
 use Rattle.jzon_base.proofs.Common.{◌≡◌, ℕ, List, [], ◌∷◌, suc, Bool, true, false, if◌then◌else◌, Option, Some, None}
 use Rattle.jzon_base.proofs.Common.{ap, ⊤, slice_get}
 use Rattle.jzon.specs.Reading.{Reading}
-use Rattle.jzon.specs.Grammar.{Sign, unsigned, plus, minus, Exponent, Numeral, Item, simple, single, double, Key}
+use Rattle.jzon.specs.Grammar.{Sign, unsigned, Exponent, Numeral, Item, simple, single, double, Key}
 use Rattle.jzon.specs.Grammar.{IsWhole}
 use Rattle.jzon.specs.Grammar as grammar
 use Rattle.jzon.specs.Spelling.{Breach, Cell, cell, plain, marked_last, whole_breach, fraction_breach, exponent_breach, digits_cells}

@@ -1,8 +1,7 @@
 -- The tree of one text, by computation (`read_tree`): the automaton accepts the text, and a tree of the grammar spells
 -- it.
-use Rattle.jzon_base.proofs.Common.{◌≡◌, ◌∙◌, ℕ, List, [], ◌∷◌, Bool, true, false, not, ◌&&◌, refl, subst, IsTrue}
+use Rattle.jzon_base.proofs.Common.{◌≡◌, ◌∙◌, ℕ, List, [], ◌∷◌, Bool, true, false, not, ◌&&◌, subst, IsTrue}
 use Rattle.jzon_base.proofs.Common.{list_all, bytes_eq, and_parts, not-true, bytes_eq-Decides}
-use Rattle.jzon_tree.specs.Value.{Value}
 use Rattle.jzon_tree.specs.Writing.{is_whitespace}
 use Rattle.jzon.specs.Reading.{Reading}
 use Rattle.jzon.specs.Grammar.{Item, simple, single, double, Key, Node, Elements, no_elements, element, Members}
@@ -99,15 +98,11 @@ is_meant (meant v) = true
 is_meant (refused f rest) = false
 
 -- a text whose outcome is a value, and a tree that spells it
-pub read_spelled : (r : Reading) (t : List ℕ) (d : Document) (o : Outcome) → Verdict r t o
+read_spelled : (r : Reading) (t : List ℕ) (d : Document) (o : Outcome) → Verdict r t o
     → IsTrue (is_meant o) → Spells r t d → Parses r t d
 read_spelled r t d (meant v) reported m h =
     subst (Parses r t) (same_tree r t reported.0 d reported.1.0 h) reported.1
 read_spelled r t d (refused f rest) reported m h = absurd (cc)
-
-pub read_meant : (r : Reading) (t : List ℕ) (d : Document) (v : Value) → outcome r t (before no_frames) ≡ meant v
-    → Spells r t d → Parses r t d
-read_meant r t d v e h = read_spelled r t d (meant v) (subst (Verdict r t) e (answers r t)) refl h
 
 abbrev pub is_read : Reading → List ℕ → Document → Bool
 is_read r t d = is_meant (outcome r t (before no_frames)) && (is_document r d && bytes_eq (document_chars d) t)

@@ -46,17 +46,6 @@ others : (p : ℕ → Bool) (v : List ℕ) → mask_l (map p v) + mask_l (map (�
 others p [] = refl
 others p (x ∷ xs) = others-at (p x) (mask_l (map p xs)) (mask_l (map (λ y. not (p y)) xs)) (length xs) (others p xs)
 
-others_are : (v : List ℕ) → length v ≡ 16 → 65535 - mask_of v ≡ mask_l (map other v)
-others_are v long =
-    let both = others (λ x. top 7 (lane x)) v ∙ ap (λ (n : ℕ). 2 ^ n) long in
-    omega (arith, both, mask_is v long)
-
-pub block_fits : (d : List ℕ) (i : ℕ) → i + 16 ≤ length d → mask_of (chunk i 16 d) ≤ 65535
-block_fits d i room =
-    let long = length-chunk i 16 d room in
-    let both = others (λ x. top 7 (lane x)) (chunk i 16 d) ∙ ap (λ (n : ℕ). 2 ^ n) long in
-    omega (arith, both, mask_is (chunk i 16 d) long)
-
 -- if there is one, it is in the block
 first-at : (b : Bool) (m n l : ℕ) → (0 < m → n < l) → 0 < cond b 1 0 + 2 * m → cond (not b) (1 + n) 0 < suc l
 first-at true m n l later some = omega arith
@@ -67,40 +56,59 @@ first p [] some = absurd (omega arith)
 first p (x ∷ xs) some =
     first-at (p x) (mask_l (map p xs)) (prefix_len (λ y. not (p y)) xs) (length xs) (first p xs) some
 
+-- Of 16 bytes v, mask v has a bit for each byte that passes the test p; 65535 - mask v has one for each of the others.
+module _ (p : ℕ → Bool) (mask : List ℕ → ℕ) (is : (v : List ℕ) → length v ≡ 16 → mask v ≡ mask_l (map p v)) where
+  others_are : (v : List ℕ) → length v ≡ 16
+      → (mask v ≤ 65535) × (65535 - mask v ≡ mask_l (map (λ x. not (p x)) v))
+  others_are v long =
+      let both = others p v ∙ ap (λ (n : ℕ). 2 ^ n) long in
+      (omega (arith, both, is v long), omega (arith, both, is v long))
+
+  all_pass : (v : List ℕ) → length v ≡ 16 → 65535 - mask v ≡ 0 → prefix_len (λ x. not (not (p x))) v ≡ 16
+  all_pass v long none = leading_from_mask_l (λ x. not (p x)) v (sym (others_are v long).1 ∙ none) ∙ long
+
+  first_other : (v : List ℕ) → length v ≡ 16 → (65535 - mask v ≡ 0 → ⊥)
+      → (count_trailing_zeros 64 (65535 - mask v) ≡ prefix_len (λ x. not (not (p x))) v)
+      × (prefix_len (λ x. not (not (p x))) v < 16)
+  first_other v long some =
+      let at = (others_are v long).1 in
+      let one : 0 < mask_l (map (λ x. not (p x)) v) = omega (arith, some, at) in (
+        ap (count_trailing_zeros 64) at ∙ trailing_mask_l (λ x. not (p x)) 64 v (omega (arith, long)) one,
+        omega (arith, first (λ x. not (p x)) v one, long),
+      )
+
+-- ---- all whitespace
+
 spaces : (d : List ℕ) (i : ℕ) → ((k : ℕ) → Fits w8 (get_or d k 0))
     → prefix_len (λ x. not (other x)) (chunk i 16 d) ≡ prefix_len (is_whitespace true) (chunk i 16 d)
 spaces d i fits = same_run (λ x. not (other x)) (is_whitespace true) (chunk i 16 d) refl (chunk-fits w8 i 16 d fits)
 
+pub block_fits : (d : List ℕ) (i : ℕ) → i + 16 ≤ length d → mask_of (chunk i 16 d) ≤ 65535
+block_fits d i room = (others_are (λ x. top 7 (lane x)) mask_of mask_is (chunk i 16 d) (length-chunk i 16 d room)).0
+
 pub block_none : (d : List ℕ) (i : ℕ) → i + 16 ≤ length d → ((k : ℕ) → Fits w8 (get_or d k 0))
     → 65535 - mask_of (chunk i 16 d) ≡ 0 → 16 ≤ prefix_len (is_whitespace true) (drop i d)
 block_none d i room fits none =
-    let long = length-chunk i 16 d room in
-    let all = leading_from_mask_l other (chunk i 16 d) (sym (others_are (chunk i 16 d) long) ∙ none) in
+    let all = all_pass (λ x. top 7 (lane x)) mask_of mask_is (chunk i 16 d) (length-chunk i 16 d room) none in
     let passed = prefix_passes (is_whitespace true) (drop i d) 16 16 (omega (arith, length-drop i d))
-    (sym (sym (spaces d i fits) ∙ all ∙ long)) (omega arith) in
+    (sym (sym (spaces d i fits) ∙ all)) (omega arith) in
     omega (arith, passed)
+
+block_zeros : (d : List ℕ) (i : ℕ) → i + 16 ≤ length d → (65535 - mask_of (chunk i 16 d) ≡ 0 → ⊥)
+    → (count_trailing_zeros 64 (65535 - mask_of (chunk i 16 d)) ≡ prefix_len (λ x. not (other x)) (chunk i 16 d))
+    × (prefix_len (λ x. not (other x)) (chunk i 16 d) < 16)
+block_zeros d i room =
+    first_other (λ x. top 7 (lane x)) mask_of mask_is (chunk i 16 d) (length-chunk i 16 d room)
 
 pub block_within : (d : List ℕ) (i : ℕ) → i + 16 ≤ length d → (65535 - mask_of (chunk i 16 d) ≡ 0 → ⊥)
     → count_trailing_zeros 64 (65535 - mask_of (chunk i 16 d)) < 16
-block_within d i room some =
-    let long = length-chunk i 16 d room in
-    let mask = others_are (chunk i 16 d) long in
-    let one : 0 < mask_l (map other (chunk i 16 d)) = omega (arith, some, mask) in
-    let zeros = ap (count_trailing_zeros 64) mask
-    ∙ trailing_mask_l other 64 (chunk i 16 d) (omega (arith, long)) one in
-    omega (arith, zeros, first other (chunk i 16 d) one, long)
+block_within d i room some = let zeros = block_zeros d i room some in omega (arith, zeros.0, zeros.1)
 
 pub block_some : (d : List ℕ) (i : ℕ) → i + 16 ≤ length d → ((k : ℕ) → Fits w8 (get_or d k 0))
     → (65535 - mask_of (chunk i 16 d) ≡ 0 → ⊥)
     → count_trailing_zeros 64 (65535 - mask_of (chunk i 16 d)) ≡ prefix_len (is_whitespace true) (drop i d)
-block_some d i room fits some =
-    let long = length-chunk i 16 d room in
-    let mask = others_are (chunk i 16 d) long in
-    let one : 0 < mask_l (map other (chunk i 16 d)) = omega (arith, some, mask) in
-    let zeros = ap (count_trailing_zeros 64) mask
-    ∙ trailing_mask_l other 64 (chunk i 16 d) (omega (arith, long)) one ∙ spaces d i fits in
-    prefix_ends (is_whitespace true) (drop i d) 16 _ (omega (arith, length-drop i d)) zeros
-    (block_within d i room some)
+block_some d i room fits some = prefix_ends (is_whitespace true) (drop i d) 16 _ (omega (arith, length-drop i d))
+    ((block_zeros d i room some).0 ∙ spaces d i fits) (block_within d i room some)
 
 -- ---- in any reading
 
@@ -165,13 +173,6 @@ usual_mask_is v long =
     ap (λ l. mask_l l % 2 ^ 64) (ap (map (top 7)) lanes ∙ map-map (top 7) usual v)
     ∙ mask_l-mod (map (λ x. top 7 (usual x)) v) 64 (omega (arith, length-map v (λ x. top 7 (usual x)), long))
 
-unusual_are : (v : List ℕ) → length v ≡ 16
-    → (usual_mask v ≤ 65535) × (65535 - usual_mask v ≡ mask_l (map unusual v))
-unusual_are v long =
-    let both = others (λ x. top 7 (usual x)) v ∙ ap (λ (n : ℕ). 2 ^ n) long in
-    let is = usual_mask_is v long in
-    (omega (arith, both, is), omega (arith, both, is))
-
 implied : (a b : Bool) → cond a true b ≡ true → not a ≡ true → b ≡ true
 implied true b e h = absurd (let no : false ≡ true = h in cc)
 implied false b e h = e
@@ -196,25 +197,20 @@ usual_part d fits =
     omega (arith, run, run_in_part (is_whitespace true) 16 d)
 
 pub usual_fits : (d : List ℕ) → 16 ≤ length d → usual_mask (chunk 0 16 d) ≤ 65535
-usual_fits d room = (unusual_are (chunk 0 16 d) (length-chunk 0 16 d room)).0
+usual_fits d room =
+    (others_are (λ x. top 7 (usual x)) usual_mask usual_mask_is (chunk 0 16 d) (length-chunk 0 16 d room)).0
 
 pub usual_none : (d : List ℕ) → 16 ≤ length d → ((k : ℕ) → Fits w8 (get_or d k 0))
     → 65535 - usual_mask (chunk 0 16 d) ≡ 0 → 16 ≤ prefix_len (is_whitespace true) d
 usual_none d room fits none =
-    let long = length-chunk 0 16 d room in
-    let all = leading_from_mask_l unusual (chunk 0 16 d) (sym (unusual_are (chunk 0 16 d) long).1 ∙ none) in
-    omega (arith, all, long, usual_part d fits)
+    let all = all_pass (λ x. top 7 (usual x)) usual_mask usual_mask_is (chunk 0 16 d) (length-chunk 0 16 d room) none in
+    omega (arith, all, usual_part d fits)
 
 usual_zeros : (d : List ℕ) → 16 ≤ length d → (65535 - usual_mask (chunk 0 16 d) ≡ 0 → ⊥)
     → (count_trailing_zeros 64 (65535 - usual_mask (chunk 0 16 d)) ≡ prefix_len (λ x. not (unusual x)) (chunk 0 16 d))
     × (prefix_len (λ x. not (unusual x)) (chunk 0 16 d) < 16)
-usual_zeros d room some =
-    let long = length-chunk 0 16 d room in
-    let mask = (unusual_are (chunk 0 16 d) long).1 in
-    let one : 0 < mask_l (map unusual (chunk 0 16 d)) = omega (arith, some, mask) in (
-      ap (count_trailing_zeros 64) mask ∙ trailing_mask_l unusual 64 (chunk 0 16 d) (omega (arith, long)) one,
-      omega (arith, first unusual (chunk 0 16 d) one, long),
-    )
+usual_zeros d room =
+    first_other (λ x. top 7 (usual x)) usual_mask usual_mask_is (chunk 0 16 d) (length-chunk 0 16 d room)
 
 pub usual_within : (d : List ℕ) → 16 ≤ length d → (65535 - usual_mask (chunk 0 16 d) ≡ 0 → ⊥)
     → count_trailing_zeros 64 (65535 - usual_mask (chunk 0 16 d)) < 16

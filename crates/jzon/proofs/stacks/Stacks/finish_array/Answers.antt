@@ -1,4 +1,4 @@
-use Rattle.jzon_base.proofs.Common.{◌∙◌, Result, Ok, Err, IfOk}
+use Rattle.jzon_base.proofs.Common.{◌∙◌}
 use Rattle.jzon.proofs.Containers.StackParts.{if_ok, IsLaidOut-values_taken, values_here}
 use Rattle.jzon.proofs.stacks.Stacks.finish_array.Goals as goal
 

@@ -1,9 +1,8 @@
-use Rattle.jzon_base.proofs.Common.{◌≡◌, ◌∙◌, ℕ, List, [], length, zip, ap, sym, subst, refl, Result, Ok, Err, IfOk}
-use Rattle.jzon_base.proofs.Common.{false, false≢true, is_some, Option, None, Some, IfSome}
+use Rattle.jzon_base.proofs.Common.{◌≡◌, ◌∙◌, ℕ, List, [], length, zip, ap, sym, subst, refl}
+use Rattle.jzon_base.proofs.Common.{false, is_some, IfSome}
 use Rattle.std.proofs.lemmas.Option.{IfSome_then}
 use Rattle.jzon_base.specs.PairList.{put_each}
 use Rattle.jzon_base.specs.Private.KnownKeys.{Knows}
-use Rattle.jzon_base.specs.declared.keys.known.KnownKeys.{KnownKeys}
 use Rattle.jzon_tree.specs.Entries.{entries_of}
 use Rattle.jzon_tree.specs.Value as value
 use Rattle.jzon_tree.specs.Value.{pairs_of}

@@ -1,7 +1,6 @@
-use Rattle.jzon_base.proofs.Common.{◌≡◌, ◌∙◌, ◌++◌, ◌∷◌, [], false, ap, sym, subst, false≢true, is_some}
-use Rattle.jzon_base.proofs.Common.{Option, None, Some, IfSome, vec_len}
+use Rattle.jzon_base.proofs.Common.{◌≡◌, ◌∙◌, ◌++◌, ◌∷◌, [], false, ap, sym, subst, is_some}
+use Rattle.jzon_base.proofs.Common.{IfSome, vec_len}
 use Rattle.jzon_base.specs.Private.KnownKeys.{Knows}
-use Rattle.jzon_base.specs.declared.keys.known.KnownKeys.{KnownKeys}
 use Rattle.jzon.specs.Private.OpenContainers.{OpenContainers, AwaitsValue}
 use Rattle.jzon.proofs.Containers.StackParts.{if_none, IsLaidOut-opened}
 use Rattle.jzon.proofs.stacks.Stacks.open.Goals.{then-is_some+in_ok-open_known, else-is_some}
