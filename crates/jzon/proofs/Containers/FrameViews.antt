@@ -1,7 +1,7 @@
 -- The open containers, as the automaton sees them.
-use Rattle.jzon_base.proofs.Common.{◌≡◌, ◌≢◌, ◌⊎◌, inl, inr, get_or, ℕ, suc, ◌+◌, ◌<◌, ◌≤◌, true, List, [], ◌∷◌, ◌++◌}
+use Rattle.jzon_base.proofs.Common.{◌≡◌, ◌≢◌, get_or, ℕ, suc, ◌+◌, ◌<◌, ◌≤◌, true, List, [], ◌∷◌, ◌++◌}
 use Rattle.jzon_base.proofs.Common.{length, length-append, map, refl, sym, ap, ◌∙◌, arith, Some, None, nat_le, zip}
-use Rattle.jzon_base.proofs.Common.{cases_lt, lt-leb, map-append, fold-append}
+use Rattle.jzon_base.proofs.Common.{lt-leb, map-append, fold-append}
 use Rattle.std.proofs.Math.ListN.{get_or-eq_default}
 use Rattle.jzon_base.specs.PairList.{put, put_each}
 use Rattle.jzon_tree.specs.Value.{Value, array, values_of, object, pairs_of}
@@ -113,8 +113,5 @@ even_again Object c v h = h ∙ sym (length-append c.values (v ∷ []))
 
 -- a byte other than 0 is before the end of a text
 pub byte_within : (bs : List ℕ) (i b : ℕ) → get_or bs i 0 ≡ b → 0 < b → i < length bs
-byte_within bs i b e lt = within (cases_lt i (length bs))
-  where
-    within : (i < length bs) ⊎ (length bs ≤ i) → i < length bs
-    within (inl h) = h
-    within (inr h) = absurd (omega (arith, e, get_or-eq_default bs 0 h))
+byte_within bs i b e lt =
+    let past : length bs ≤ i → ⊥ = λ h. omega (arith, e, get_or-eq_default bs 0 h) in omega (arith, past)

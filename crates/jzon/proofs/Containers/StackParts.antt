@@ -3,7 +3,7 @@ use Rattle.jzon_base.proofs.Common.{◌≡◌, ℕ, ◌≤◌, true, false, List
 use Rattle.jzon_base.proofs.Common.{length, take, drop, vec_len, Option, None, Some, option_map, IfSome, Vec, Global}
 use Rattle.jzon_base.proofs.Common.{length-append, refl, sym, ap, ◌∙◌, subst, arith, take-take, take_all}
 use Rattle.jzon_base.proofs.Common.{drop_all, length-take, length-drop, false≢true, take-append-le, drop-append-le}
-use Rattle.jzon_base.proofs.Common.{position, zip, is_some, bytes_eq, Result, Ok, Err, IfOk}
+use Rattle.jzon_base.proofs.Common.{position, zip, is_some, bytes_eq}
 use Rattle.std.specs.Prelude.{reverse, MatchOption}
 use Rattle.std.proofs.lemmas.List.{reverse-append}
 use Rattle.std.proofs.lemmas.Option.{IfSome_then}
@@ -23,10 +23,6 @@ use Rattle.jzon.specs.declared.container_kind.ContainerKind.{ContainerKind}
 use Rattle.jzon.specs.declared.container_kind.ContainerKind.TheVariants.{Array, Object}
 use Rattle.jzon.specs.declared.stacks.Frame.{Frame}
 use Rattle.jzon.specs.declared.stacks.Stacks.TheInside.{Inside}
-
-pub if_ok : {T E : Type 0} (P Q : T → Type 0) (r : Result T E) → ((x : T) → P x → Q x) → IfOk r P → IfOk r Q
-if_ok P Q (Ok x) f h = f x h
-if_ok P Q (Err e) f h = tt
 
 pub if_none : (P : KnownKeys → Type 0) (a : Option KnownKeys) → is_some a ≡ false → IfSome a P
 if_none P None e = tt
@@ -101,18 +97,19 @@ values_within s h = omega (arith, h.values_within, s.values.ok.0)
 keys_within : (s : Inside) → IsLaidOut s → s.innermost.first_key ≤ length s.keys.items
 keys_within s h = omega (arith, h.keys_within, s.keys.ok.0)
 
-pub IsChange-values : (s : Inside) (vs : Vec JsonValue Global) → IsLaidOut s
-    → Keeps s.innermost.first_value s.values.items vs.items → IsChange s s.keys vs s.known
-IsChange-values s vs h v = record {
-  keys = keeps_same s.innermost.first_key s.keys.items s.keys.items (keys_within s h) refl;
+IsLaidOut-kept : (s : Inside) (ks : Vec (List ℕ) Global) (vs : Vec JsonValue Global) → IsLaidOut s
+    → ks.items ≡ s.keys.items → Keeps s.innermost.first_value s.values.items vs.items
+    → IsLaidOut (record s { keys = ks; values = vs })
+IsLaidOut-kept s ks vs h same v = IsLaidOut-changed s ks vs s.known h (record {
+  keys = keeps_same s.innermost.first_key s.keys.items ks.items (keys_within s h) same;
   values = v;
   strict = refl;
-  knows = IfSome_then s.known h.known (λ l k. k.0);
-}
+  knows = rw same (IfSome_then s.known h.known (λ l k. k.0));
+})
 
 pub IsLaidOut-values : (s : Inside) (vs : Vec JsonValue Global) → IsLaidOut s
     → Keeps s.innermost.first_value s.values.items vs.items → IsLaidOut (record s { values = vs })
-IsLaidOut-values s vs h v = IsLaidOut-changed s s.keys vs s.known h (IsChange-values s vs h v)
+IsLaidOut-values s vs h v = IsLaidOut-kept s s.keys vs h refl v
 
 pub IsLaidOut-same : (s : Inside) (vs : Vec JsonValue Global) → IsLaidOut s → vs.items ≡ s.values.items
     → IsLaidOut (record s { values = vs })
@@ -322,12 +319,8 @@ view-array_ended s vs o h seen none cut =
 pub IsLaidOut-values_cut : (s : Inside) (ks : Vec (List ℕ) Global) (vs : Vec JsonValue Global) → IsLaidOut s
     → ks.items ≡ s.keys.items → vs.items ≡ take s.innermost.first_value s.values.items
     → IsLaidOut (record s { keys = ks; values = vs })
-IsLaidOut-values_cut s ks vs h same cut = IsLaidOut-changed s ks vs s.known h (record {
-  keys = keeps_same s.innermost.first_key s.keys.items ks.items (keys_within s h) same;
-  values = keeps_cut s.innermost.first_value s.values.items vs.items (values_within s h) cut;
-  strict = refl;
-  knows = rw same (IfSome_then s.known h.known (λ l k. k.0));
-})
+IsLaidOut-values_cut s ks vs h same cut =
+    IsLaidOut-kept s ks vs h same (keeps_cut s.innermost.first_value s.values.items vs.items (values_within s h) cut)
 
 -- ---- the outermost container has all that is on the stacks
 

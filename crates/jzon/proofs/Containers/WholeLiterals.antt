@@ -12,16 +12,11 @@ use Rattle.jzon.proofs.Containers.LiteralLetters.{letter_read, four_read}
 abbrev pub IsFirst : ℕ → Type 0
 IsFirst b = (b ≡ 110) ⊎ ((b ≡ 116) ⊎ (b ≡ 102))
 
--- the value of a literal, by its first letter
-pub record Means (b : ℕ) (v : Value) : Type 0 where
-  pub null : b ≡ 110 → v ≡ null
-  pub yes : b ≡ 116 → v ≡ boolean true
-  pub no : b ≡ 102 → v ≡ boolean false
-
-pub record Spells (b : ℕ) (ls ns ys fs : List ℕ) : Type 0 where
-  pub null : b ≡ 110 → ls ≡ ns
-  pub yes : b ≡ 116 → ls ≡ ys
-  pub no : b ≡ 102 → ls ≡ fs
+-- x for `null`, `true` or `false`, by its first letter
+pub record ByFirst {X : Type 0} (b : ℕ) (x n y f : X) : Type 0 where
+  pub null : b ≡ 110 → x ≡ n
+  pub yes : b ≡ 116 → x ≡ y
+  pub no : b ≡ 102 → x ≡ f
 
 -- a literal begins at i, of which four letters are expected from k on: of four letters the first is read anew
 pub record Begins (r : Reading) (bs : List ℕ) (i k : ℕ) (fs : Frames) (v : Value) (four : List ℕ) : Type 0 where
@@ -41,8 +36,9 @@ anew r bs i k l ls fs v four u lt h ascii here is first =
     }
 
 pub word_begins : (r : Reading) (bs : List ℕ) (i b k : ℕ) (fs : Frames) (v : Value) (four : List ℕ) → IsUtf8 bs
-    → i < length bs → get_or bs i 0 ≡ b → value_mark r fs ≡ None → IsFirst b → Means b v
-    → Spells b four (110 ∷ 117 ∷ 108 ∷ 108 ∷ []) (116 ∷ 114 ∷ 117 ∷ 101 ∷ []) (97 ∷ 108 ∷ 115 ∷ 101 ∷ [])
+    → i < length bs → get_or bs i 0 ≡ b → value_mark r fs ≡ None → IsFirst b
+    → ByFirst b v null (boolean true) (boolean false)
+    → ByFirst b four (110 ∷ 117 ∷ 108 ∷ 108 ∷ []) (116 ∷ 114 ∷ 117 ∷ 101 ∷ []) (97 ∷ 108 ∷ 115 ∷ 101 ∷ [])
     → (b ≢ 102 → k ≡ i) → (b ≡ 102 → k ≡ i + 1) → Begins r bs i k fs v four
 word_begins r bs i b k fs v four u lt h m (inl e) means spells short long =
     anew r bs i k 110 (117 ∷ 108 ∷ 108 ∷ []) fs v four u lt (h ∙ e) (lit< tt) (short (λ f. absurd (omega (arith, e, f))))
@@ -94,7 +90,7 @@ four_end r bs i k a b c d fs v four u begins is la lb lc ld stand =
 
 pub word_ends : (r : Reading) (bs : List ℕ) (i b k : ℕ) (fs : Frames) (v : Value) (four : List ℕ) → IsUtf8 bs
     → Begins r bs i k fs v four → IsFirst b
-    → Spells b four (110 ∷ 117 ∷ 108 ∷ 108 ∷ []) (116 ∷ 114 ∷ 117 ∷ 101 ∷ []) (97 ∷ 108 ∷ 115 ∷ 101 ∷ [])
+    → ByFirst b four (110 ∷ 117 ∷ 108 ∷ 108 ∷ []) (116 ∷ 114 ∷ 117 ∷ 101 ∷ []) (97 ∷ 108 ∷ 115 ∷ 101 ∷ [])
     → Stand bs k four → WordEnds r bs i (k + 4) fs v
 word_ends r bs i b k fs v four u begins (inl e) spells stand =
     four_end r bs i k 110 117 108 108 fs v four u begins (spells.null e) (lit< tt) (lit< tt) (lit< tt) (lit< tt) stand

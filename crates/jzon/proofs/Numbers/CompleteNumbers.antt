@@ -1,7 +1,7 @@
 -- Complete, for numbers (`complete_number`): over the cells of a number the automaton goes from before it to after it,
 -- each move with its cell's mark. The end of a number is decided by what follows it, so nothing is required of that.
 use Rattle.jzon_base.proofs.Common.{◌≡◌, ℕ, List, [], ◌∷◌, Bool, true, false, ◌==◌, Option, Some, None, refl}
-use Rattle.jzon_base.proofs.Common.{sym, subst, eqb-true, IsTrue, is_ascii_digit, ◌∙◌, and_parts, not-true, true≢false}
+use Rattle.jzon_base.proofs.Common.{sym, subst, eqb-true, ◌∙◌, and_parts, not-true, true≢false}
 use Rattle.jzon_tree.specs.Value as value
 use Rattle.jzon.specs.Reading.{Reading}
 use Rattle.jzon.specs.Grammar.{Sign, unsigned, plus, minus, Exponent, Numeral, AreDigits, IsDigits, IsWhole, IsExponent}
@@ -14,7 +14,7 @@ use Rattle.jzon.specs.Private.Classes.{fraction, after_letter, exponent, after_f
 use Rattle.jzon.specs.Private.Machine.{Frames, Move, before, numeral, after_value, Outcome, meant_at, last_numeral}
 use Rattle.jzon.specs.Private.Machine.{value_mark, number_value, exponent_of, move_after_value, move_after_whole}
 use Rattle.jzon.specs.Private.Machine.{move_numeral}
-use Rattle.jzon.proofs.Texts.ClassesOfCharacters.{digits-class, letter_e-class, class-char}
+use Rattle.jzon.proofs.Texts.ClassesOfCharacters.{digits-class, letter_e-class, class-char, whole_digits}
 use Rattle.jzon.proofs.Numbers.NumberLimits.{in_order}
 use Rattle.jzon.proofs.Texts.Runs.{Meets, Follows}
 
@@ -136,10 +136,6 @@ module _ (r : Reading) (G : Outcome → Type 0) (fs : Frames) (negative : Bool) 
       read_whole (d ∷ []) (x ∷ es) k ok.1 (h (whole (onto (x ∷ es) (d ∷ [])))
       (subst (EndsWhole (whole (onto (x ∷ es) (d ∷ [])))) (in_order d (x ∷ es)) (digits_end (onto (x ∷ es) (d ∷ [])))))
 
-  first_digit : (d : ℕ) (es : List ℕ) → IsWhole (d ∷ es) → IsTrue (is_ascii_digit d)
-  first_digit d [] ok = ok
-  first_digit d (x ∷ es) ok = (and_parts _ _ ok.0).0
-
   read_magnitude : (d : ℕ) (es ds : List ℕ) (x : Option Exponent) (k : List Cell) → IsWhole (d ∷ es) → AreDigits ds
       → IsExponent x → B (d ∷ es) ds x k
       → F (digits_cells (whole_breach r) (d ∷ []) es (fraction_cells r (d ∷ es) ds (exponent_cells r (d ∷ es) ds x k)))
@@ -156,11 +152,11 @@ module _ (r : Reading) (G : Outcome → Type 0) (fs : Frames) where
   read_signed true (d ∷ es) ds x k ok ds_ok x_ok h =
       rw (class-char r.strict minus_char) (
         refl,
-        rw (digits-class r.strict d (first_digit r G fs true d es ok))
+        rw (digits-class r.strict d (whole_digits (d ∷ es) ok).0)
             (refl, read_magnitude r G fs true d es ds x k ok ds_ok x_ok h),
       )
   read_signed false (d ∷ es) ds x k ok ds_ok x_ok h =
-      rw (digits-class r.strict d (first_digit r G fs false d es ok))
+      rw (digits-class r.strict d (whole_digits (d ∷ es) ok).0)
       (refl, read_magnitude r G fs false d es ds x k ok ds_ok x_ok h)
 
   pub complete_number : (n : Numeral) (k : List Cell) → IsNumeral n

@@ -130,18 +130,14 @@ whole_too_many bs i ws ds u w many r fs negative none = rw (offset_before i (len
 -- a lost digit before the point
 lost_before_limit : (ws ds : List ℕ) (n : ℕ) → IsFirstLost ws ds n → n < length ws → n < kept_len (ws ++ ds) + 32767
 lost_before_limit ws ds n h within =
-    elim (cases_lt (dropped ws ds) 32768) [
-      | inl few ↦ omega arith
-      | inr many ↦ h.1 (kept_len (ws ++ ds) + 32767) (inl (many, refl))
-    ]
+    let past : kept_len (ws ++ ds) + 32767 ≤ n → ⊥ = λ le.
+    omega (arith, h.1 (kept_len (ws ++ ds) + 32767) (inl (omega (arith, le, within), refl))) in omega (arith, past)
 
 kept_above_zero : (bs : List ℕ) (i : ℕ) (ws ds : List ℕ) (n : ℕ) → WholeStands bs i ws → IsFirstLost ws ds n
     → n < length ws → 1 < length ws
 kept_above_zero bs i ws ds n w h within =
-    elim (cases_lt 1 (length ws)) [
-      | inl more ↦ more
-      | inr one ↦ absurd (not_first ws n one within (w.all 0 0 (omega arith)) (lost_so (ws ++ ds) n h.0.0 h.0.1).0)
-    ]
+    let one : length ws ≤ 1 → ⊥ = λ le.
+    not_first ws n le within (w.all 0 0 (omega arith)) (lost_so (ws ++ ds) n h.0.0 h.0.1).0 in omega (arith, one)
   where
     not_first : (ws : List ℕ) (n : ℕ) → length ws ≤ 1 → n < length ws → IsDigit (get_or ws 0 0)
         → kept_len (ws ++ ds) ≤ n → ⊥
@@ -295,13 +291,11 @@ reads_whole_and_fraction bs i p ws ds u w at lt is_point same =
         ]
       where
         few_kept_before : IsFirstLost ws ds n → length ws ≤ n → kept_fraction ws ds < 32769
-        few_kept_before h after = elim (cases_lt (kept_fraction ws ds) 32769) [
-          | inl few ↦ few
-          | inr many ↦ absurd (omega (arith, (lost_so (ws ++ ds) n h.0.0 h.0.1).0, h.1 (length ws + 32768) (inr (many, refl))))
-        ]
+        few_kept_before h after =
+            let no : 32769 ≤ kept_fraction ws ds → ⊥ = λ many.
+            omega (arith, (lost_so (ws ++ ds) n h.0.0 h.0.1).0, h.1 (length ws + 32768) (inr (many, refl))) in omega (arith, no)
 
         few_dropped_before : IsFirstLost ws ds n → length ws ≤ n → dropped ws ds < 32768
-        few_dropped_before h after = elim (cases_lt (dropped ws ds) 32768) [
-          | inl few ↦ few
-          | inr many ↦ absurd (omega (arith, h.1 (kept_len (ws ++ ds) + 32767) (inl (many, refl))))
-        ]
+        few_dropped_before h after =
+            let no : 32768 ≤ dropped ws ds → ⊥ = λ many.
+            omega (arith, h.1 (kept_len (ws ++ ds) + 32767) (inl (many, refl))) in omega (arith, no)

@@ -1,6 +1,6 @@
 -- The outcome of the rest of the text after each part of a number: another part, the end, or a missing digit.
 use Rattle.jzon_base.proofs.Common.{◌≡◌, suc, ◌∙◌, ℕ, ◌+◌, ◌<◌, ◌≤◌, List, [], ◌∷◌, ◌++◌, length, drop, Bool, true, false}
-use Rattle.jzon_base.proofs.Common.{◌==◌, zero, Option, None, refl, sym, ap, arith, true≢false, append-nil, IsTrue, ⊤, inl, inr, cases_lt}
+use Rattle.jzon_base.proofs.Common.{◌==◌, zero, Option, None, refl, sym, ap, arith, true≢false, append-nil, IsTrue, ⊤}
 use Rattle.jzon_base.proofs.Common.{is_ascii_digit, eqb-false}
 use Rattle.jzon_base.specs.Digits.{kept_len, dropped, kept_fraction}
 use Rattle.jzon_base.specs.LostDigits.{IsFirst, loses_last}
@@ -142,11 +142,8 @@ reads_zero r d cs is_zero = record {
 -- the first digit is kept
 pub first_kept : (d : ℕ) (ds : List ℕ) → d < 58 → 1 ≤ kept_len (d ∷ ds)
 first_kept d ds below =
-    let longest = kept_len_is_longest (d ∷ ds) in
-    elim (cases_lt (kept_len (d ∷ ds)) 1) [
-      | inl none ↦ absurd (omega (arith, longest.longest 1 none (omega arith)))
-      | inr some ↦ some
-    ]
+    let none : kept_len (d ∷ ds) < 1 → ⊥ = λ h. omega (arith, (kept_len_is_longest (d ∷ ds)).longest 1 h (omega arith)) in
+    omega (arith, none)
 
 pub reads_digits : (r : Reading) (d : ℕ) (es rest : List ℕ) → (d == 48) ≡ false → d < 58 → AreDigits es
     → NextFails is_ascii_digit rest → ReadsWhole r d (d ∷ es) (es ++ rest) rest

@@ -4,7 +4,7 @@ use Rattle.jzon_base.proofs.Common.{◌≡◌, ◌∙◌, ℕ, zero, suc, ℤ, p
 use Rattle.jzon_base.proofs.Common.{◌∷◌, ◌++◌, length, take, drop, get_or, Bool, true, false, Option}
 use Rattle.jzon_base.proofs.Common.{Some, None, refl, sym, ap, subst, arith, ints, clamps, inl, inr, cases_lt, cases_eq, fold}
 use Rattle.jzon_base.proofs.Common.{fold-append, take-append-drop, length-append, length-drop, pow-add}
-use Rattle.jzon_base.proofs.Common.{and_parts, get_or-drop, if◌then◌else◌}
+use Rattle.jzon_base.proofs.Common.{get_or-drop, if◌then◌else◌}
 use Rattle.jzon_base.specs.Digits.{add_digit, digits_number, kept_len, kept, dropped, kept_fraction, own_power}
 use Rattle.jzon_base.specs.LostDigits.{HoldsOfNone, loses_last, is_out_of_range}
 use Rattle.jzon_base.proofs.Numbers.DigitPrefixes.{kept_len_is_longest}
@@ -22,7 +22,7 @@ use Rattle.jzon.proofs.Numbers.NumberLimits.{exponent_keeps, whole_few, fraction
 use Rattle.jzon.proofs.Numbers.NumeralOutcomes.{first_kept}
 use Rattle.jzon.proofs.ReadBack.UnmarkedCells.{HaveNoMarks, unmarked, plain_rest, sign_rest, key_first}
 use Rattle.jzon.proofs.ReadBack.MeaningHeld.{node_held}
-use Rattle.jzon.proofs.Texts.ClassesOfCharacters.{digit_below}
+use Rattle.jzon.proofs.Texts.ClassesOfCharacters.{digit_below, whole_digits}
 use Rattle.jzon.proofs.ReadBack.TrailingZeros.{ten_more}
 
 -- ---- the value of digits of which only zeros are dropped
@@ -104,8 +104,7 @@ all_clear breach ds k h =
     let clear = digits_clear breach [] ds k h in (λ i within. clear.0 i (omega arith) within, clear.1)
 
 pub first_below : (d : ℕ) (es : List ℕ) → IsWhole (d ∷ es) → d < 58
-first_below d [] ok = digit_below d ok
-first_below d (e ∷ es) ok = digit_below d (and_parts _ _ ok.0).0
+first_below d es ok = digit_below d (whole_digits (d ∷ es) ok).0
 
 module _ (r : Reading) (exact : r.exact ≡ true) where
   fraction_clear : (ws fs : List ℕ) (k : List Cell) → HaveNoMarks (fraction_cells r ws fs k)

@@ -4,7 +4,7 @@ use Rattle.jzon_base.proofs.Common.{◌≡◌, ◌≢◌, ◌⊎◌, ◌∙◌, 
 use Rattle.jzon_base.proofs.Common.{List, [], ◌∷◌, ◌++◌, length, take, drop, get_or, Bool, true, false, ◌&&◌, Option, Some, None}
 use Rattle.jzon_base.proofs.Common.{refl, sym, ap, subst, arith, ints, inl, inr, cases_lt, fold, if◌then◌else◌}
 use Rattle.jzon_base.proofs.Common.{fold-append, take-append-drop, length-append, pow-add}
-use Rattle.jzon_base.proofs.Common.{and_parts, mul-le-mul_right, one-le-pow}
+use Rattle.jzon_base.proofs.Common.{mul-le-mul_right, one-le-pow}
 use Rattle.jzon_base.proofs.Common.{pow-le-pow_right, FitsSigned, w16, slice_get}
 use Rattle.std.proofs.lemmas.List.Elements.{All-from_recursion}
 use Rattle.jzon_base.specs.Digits.{IsDigit, add_digit, digits_number, kept_len, kept, dropped, kept_fraction, clamp, own_power}
@@ -18,6 +18,7 @@ use Rattle.jzon.specs.Spelling.{sign_cells, exponent_cells, magnitude_cells, num
 use Rattle.jzon.specs.Meaning.{written_exponent, signed_exponent}
 use Rattle.jzon.specs.Exact.{AreEqualDecimals, DifferByZeros, IsInexact, InexactNumbers}
 use Rattle.jzon.proofs.Texts.Cells.{marks_of}
+use Rattle.jzon.proofs.Texts.ClassesOfCharacters.{whole_digits}
 use Rattle.jzon.proofs.Numbers.NumberLimits.{AreUnmarked, up_to_next, length-onto, whole_mark, fraction_mark, whole_few}
 use Rattle.jzon.proofs.Numbers.NumberLimits.{fraction_few}
 use Rattle.jzon.proofs.Numbers.DigitRuns.{AreDigits-append}
@@ -52,27 +53,17 @@ no_power v (suc n) some same = absurd (some (omega (arith, same, tenfold v n, ti
 
 -- by so many powers of ten one exponent is above the other
 apart : (e f : ℤ) → (k : ℕ) × ((e +ℤ pos k ≡ f) ⊎ (e ≡ f +ℤ pos k))
-apart (pos a) (pos b) = elim (cases_lt a b) [
-  | inl less ↦ (b - a, inl (omega (arith, ints, less)))
-  | inr more ↦ (a - b, inr (omega (arith, ints, more)))
-]
-apart (pos a) (negsuc b) = (a + b + 1, inr (omega (arith, ints)))
-apart (negsuc a) (pos b) = (a + b + 1, inl (omega (arith, ints)))
-apart (negsuc a) (negsuc b) = elim (cases_lt a b) [
-  | inl less ↦ (b - a, inr (omega (arith, ints, less)))
-  | inr more ↦ (a - b, inl (omega (arith, ints, more)))
-]
+apart e f = by (f -ℤ e) refl
+  where
+    by : (d : ℤ) → f -ℤ e ≡ d → (k : ℕ) × ((e +ℤ pos k ≡ f) ⊎ (e ≡ f +ℤ pos k))
+    by (pos k) h = (k, inl (omega (arith, ints, h)))
+    by (negsuc k) h = (suc k, inr (omega (arith, ints, h)))
 
 -- ---- digits
 
 all_digits : (ds : List ℕ) → AreDigits ds → AllDigits ds
 all_digits [] ok = tt
 all_digits (d ∷ ds) ok = (digit_bounds d ok.0, all_digits ds ok.1)
-
-whole_digits : (ws : List ℕ) → IsWhole ws → AreDigits ws
-whole_digits [] ok = absurd ok
-whole_digits (d ∷ []) ok = (ok, tt)
-whole_digits (d ∷ e ∷ ds) ok = ((and_parts _ _ ok.0).0, ok.1)
 
 -- a number is at least that of its first digits with zeros
 from_prefix : (v : ℕ) (ds : List ℕ) → v * 10 ^ length ds ≤ fold add_digit v ds
@@ -129,11 +120,7 @@ module _ (ds : List ℕ) (ok : AllDigits ds) (p : ℕ) (within : p < length ds)
         let top : m * 10 ^ suc t ≡ start =
         at_multiple (m * 10 ^ suc t) start (10 ^ others) (omega (arith, is, low)) (omega (arith, is, high)) in
         let digit : IsDigit (get_or ds p 0) = All-from_recursion IsDigit ds ok p 0 within in
-        let some : 48 < get_or ds p 0 =
-        elim (cases_lt 48 (get_or ds p 0)) [
-          | inl more ↦ more
-          | inr less ↦ absurd ((lost_so ds p within lost).1 (omega (arith, less, digit)))
-        ] in
+        let some : get_or ds p 0 ≤ 48 → ⊥ = λ less. (lost_so ds p within lost).1 (omega (arith, less, digit)) in
         omega (arith, top, tenfold m t, one_more ds p within, some, digit))
     | inr few ↦
         (let more = mul-le-mul_right {m = 10 ^ j} {n = 10 ^ others} start

@@ -1,9 +1,9 @@
 -- The forms of a printed number that preserve its mantissa and its exponent.
 use Rattle.jzon_base.proofs.Common.{◌≡◌, ℕ, suc, zero, ℤ, pos, negsuc, ◌+ℤ◌, ◌-ℤ◌, ◌+◌, ◌-◌, ◌^◌, ◌≤◌, ◌<◌, Option}
 use Rattle.jzon_base.proofs.Common.{Some, None, List, [], ◌∷◌, ◌++◌, length, take, drop, replicate, Bool, true, false}
-use Rattle.jzon_base.proofs.Common.{refl, sym, ap, ◌∙◌, arith, decimal, codes, FitsSigned, get_or, length-append}
+use Rattle.jzon_base.proofs.Common.{refl, sym, ap, ◌∙◌, arith, decimal, codes, FitsSigned, length-append}
 use Rattle.jzon_base.proofs.Common.{append_assoc, append-nil, inl, inr, w16, fold, ints, cases_eq, fold-append, lit<}
-use Rattle.jzon_base.proofs.Common.{length-replicate}
+use Rattle.jzon_base.proofs.Common.{get_or-take, length-replicate}
 use Rattle.std.proofs.Common.{length-take, length-drop}
 use Rattle.std.proofs.lemmas.List.{take-append-drop}
 use Rattle.jzon_base.specs.Digits.{add_digit, digits_number}
@@ -44,11 +44,6 @@ zero_alone s e =
 
 -- ---- a point among the digits
 
-get_or-take : (n : ℕ) (ds : List ℕ) → 0 < n → get_or (take n ds) 0 0 ≡ get_or ds 0 0
-get_or-take zero ds h = absurd (omega arith)
-get_or-take (suc n) [] h = refl
-get_or-take (suc n) (c ∷ cs) h = refl
-
 fraction-is : (f : List ℕ) → 0 < length f → fraction_spelled f ≡ codes "." ++ f
 fraction-is [] h = absurd (omega arith)
 fraction-is (c ∷ cs) h = refl
@@ -58,7 +53,7 @@ whole_prefix : (m n : ℕ) (ds : List ℕ) → IsMantissa m ds → 0 < n → IsW
 whole_prefix m n ds is h = (
   digits-take n ds is.digits,
   omega (arith, length-take n ds, is.some),
-  λ z. absurd (omega (arith, is.first, get_or-take n ds h)),
+  λ z. absurd (omega (arith, is.first, get_or-take n ds 0 0 h)),
 )
 
 pub pointed : (s : Bool) (m k : ℕ) → 0 < m → m < 2 ^ 64 → FitsSigned w16 (negsuc k) → k + 1 ≤ 17

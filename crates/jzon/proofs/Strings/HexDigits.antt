@@ -3,7 +3,7 @@ use Rattle.jzon_base.proofs.Common.{◌≡◌, ℕ, zero, suc, ◌+◌, ◌-◌,
 use Rattle.jzon_base.proofs.Common.{length, take, drop, get_or, refl, sym, ap, subst, ◌∙◌, arith, None, ◌&&◌, chars}
 use Rattle.jzon_base.proofs.Common.{IsUtf8, slice_range, fold, is_ascii_hexdigit, digit_value, IsCharBoundary}
 use Rattle.jzon_base.proofs.Common.{pow-le-pow_right, false_from_ne_true, nat_tests, get_or-drop, take_more}
-use Rattle.jzon_base.proofs.Common.{fold-append, IsCharBoundary-after_ascii, add-zero}
+use Rattle.jzon_base.proofs.Common.{fold-append, IsCharBoundary-after_ascii}
 use Rattle.std.proofs.Common.{length-drop}
 use Rattle.std.proofs.lemmas.Grind.{pow_more}
 use Rattle.jzon.specs.Reading.{Reading}
@@ -162,34 +162,23 @@ pub hex_spelled : (bs : List ℕ) (start i u : ℕ) → HexRead bs start i u →
 unfolding code_unit
 hex_spelled bs start i u k e = k.value ∙ ap (λ n. fold add_hex 0 (slice_range bs start n)) e
 
--- all four at once
-pub hex_four : (bs : List ℕ) (start a b c d : ℕ) → IsUtf8 bs → IsCharBoundary bs start → start + 4 ≤ length bs
-    → a ≡ get_or bs start 0 → b ≡ get_or bs (start + 1) 0 → c ≡ get_or bs (start + 2) 0 → d ≡ get_or bs (start + 3) 0
-    → is_ascii_hexdigit a ≡ true → is_ascii_hexdigit b ≡ true → is_ascii_hexdigit c ≡ true → is_ascii_hexdigit d ≡ true
-    → HexRead bs start (start + 4) (add_hex (add_hex (add_hex (digit_value a) b) c) d)
-hex_four bs start a b c d text here room ea eb ec ed ha hb hc hd =
-    let digit : (i j x u : ℕ) → HexRead bs start i u → start ≤ i → i < start + 4 → x ≡ get_or bs i 0
-    → is_ascii_hexdigit x ≡ true → i + 1 ≡ j → HexRead bs start j (add_hex u x) = λ i j x u k low high e h next.
-    rw (← next, e) (hex_more bs start i u k text low high (omega arith) (rw e at h)) in
-    let one : HexRead bs start (start + 1) (digit_value a) =
-    subst (HexRead bs start (start + 1)) (omega arith)
-    (digit start (start + 1) a 0 (hex_begun bs start here) (omega arith) (omega arith) ea ha refl) in
-    let two = digit (start + 1) (start + 2) b _ one (omega arith) (omega arith) eb hb (omega arith) in
-    let three = digit (start + 2) (start + 3) c _ two (omega arith) (omega arith) ec hc (omega arith) in
-    digit (start + 3) (start + 4) d _ three (omega arith) (omega arith) ed hd (omega arith)
-
 -- x is the value of the digit b
 abbrev pub Digit : ℕ → ℕ → Type 0
 Digit x b = (is_ascii_hexdigit b ≡ true) × (x ≡ digit_value b)
 
--- the digits are the first four of the bytes from `start` on
+-- all four at once, which are the first of the bytes from `start` on
 pub hex_at_once : (bs rest : List ℕ) (start a b c d : ℕ) → IsUtf8 bs → IsCharBoundary bs start → rest ≡ drop start bs
     → 4 ≤ length rest → Digit a (get_or rest 0 0) → Digit b (get_or rest 1 0) → Digit c (get_or rest 2 0)
     → Digit d (get_or rest 3 0) → HexRead bs start (start + 4) (((a * 16 + b) * 16 + c) * 16 + d)
 hex_at_once bs rest start a b c d text here e room da db dc dd =
-    let at : (k : ℕ) → get_or rest k 0 ≡ get_or bs (start + k) 0 =
-    λ k. ap (λ s. get_or s k 0) e ∙ get_or-drop start bs k 0 in
-    let first : get_or rest 0 0 ≡ get_or bs start 0 = at 0 ∙ ap (λ n. get_or bs n 0) (add-zero start) in
-    let four = hex_four bs start (get_or rest 0 0) (get_or rest 1 0) (get_or rest 2 0) (get_or rest 3 0) text here
-    (omega (arith, room, ap length e, length-drop start bs)) first (at 1) (at 2) (at 3) da.0 db.0 dc.0 dd.0 in
-    rw (da.1, db.1, dc.1, dd.1) four
+    let digit : (i j k x u : ℕ) → HexRead bs start i u → i ≡ start + k → k < 4 → Digit x (get_or rest k 0) → i + 1 ≡ j
+    → HexRead bs start j (u * 16 + x) = λ i j k x u read at few dx next.
+    let byte : get_or rest k 0 ≡ get_or bs i 0 =
+    ap (λ s. get_or s k 0) e ∙ get_or-drop start bs k 0 ∙ ap (λ n. get_or bs n 0) (sym at) in
+    rw (← next, dx.1, byte) (hex_more bs start i u read text (omega (arith, at)) (omega (arith, at, few))
+    (omega (arith, at, few, room, ap length e, length-drop start bs)) (rw byte at dx.0)) in
+    let one : HexRead bs start (start + 1) a = subst (HexRead bs start (start + 1)) (omega arith)
+    (digit start (start + 1) 0 a 0 (hex_begun bs start here) (omega arith) (omega arith) da refl) in
+    let two = digit (start + 1) (start + 2) 1 b _ one refl (omega arith) db (omega arith) in
+    let three = digit (start + 2) (start + 3) 2 c _ two refl (omega arith) dc (omega arith) in
+    digit (start + 3) (start + 4) 3 d _ three refl (omega arith) dd (omega arith)

@@ -1,15 +1,14 @@
 -- Where a run of plain characters of a string ends: a quote, a backslash, or a fault.
-use Rattle.jzon_base.proofs.Common.{◌≡◌, ℕ, ◌+◌, ◌-◌, ◌<◌, true, false, ◌&&◌, List, length, drop, get_or}
+use Rattle.jzon_base.proofs.Common.{◌≡◌, ℕ, ◌+◌, ◌-◌, ◌<◌, false, ◌&&◌, List, length, drop, get_or}
 use Rattle.jzon_base.proofs.Common.{refl, ap, sym, subst, ◌∙◌, arith, chars, IsUtf8, ◌==◌, is_some, IsCharBoundary}
-use Rattle.jzon_base.proofs.Common.{nat_tests, IsCharBoundary-after_ascii}
+use Rattle.jzon_base.proofs.Common.{nat_tests, IsCharBoundary-after_ascii, Bool}
 use Rattle.jzon_base.specs.Private.PlainBytes.{is_plain}
 use Rattle.jzon_base.specs.PairList.{find}
 use Rattle.jzon.specs.Reading.{Reading}
 use Rattle.jzon.specs.Grammar.{is_unescaped}
 use Rattle.jzon.specs.Spelling.{duplicate, breach_if}
-use Rattle.jzon.specs.Fault.{limit}
 use Rattle.jzon.specs.Private.Quote.{EndsAtQuote}
-use Rattle.jzon.specs.Private.Machine.{EntriesSoFar, Frames, Role, as_key, after_key, go, refused, string, between}
+use Rattle.jzon.specs.Private.Machine.{EntriesSoFar, Frames, Role, as_key, after_key, go, string, between}
 use Rattle.jzon.specs.Private.Machine.{after_backslash, closed_string, bad, move_between, outcome_on, from, from_closed, left_at}
 use Rattle.jzon.specs.Private.Machine.{fault_here}
 use Rattle.jzon.proofs.Strings.StringSteps.{byte_moves, byte_stops}
@@ -58,18 +57,11 @@ string_stops r role xs bs i u at no_plain no_escape no_end =
     no_quote r role xs c (left_at bs i) (ap is_plain same ∙ plain) (λ e. no_end (b.within, sym same ∙ e))
     (λ e. no_escape b.within (sym same ∙ e)))
 
--- after the closing quote of a key that isn't rejected, and of one that is
-pub key_goes : (r : Reading) (bs : List ℕ) (fs : Frames) (es : EntriesSoFar) (opened : ℕ) (k : List ℕ) (i : ℕ)
-    → (r.strict && is_some (find k es)) ≡ false
-    → from_closed r bs (as_key fs es opened) k i ≡ from r bs (after_key fs es k) i
-key_goes r bs fs es opened k i e =
-    ap (λ t. outcome_on (go (breach_if t (duplicate (opened - left_at bs (i - 1)))) (after_key fs es k))
-    (λ p. from r bs p i) (chars (drop (i - 1) bs))) e
-
-pub key_refused : (r : Reading) (bs : List ℕ) (fs : Frames) (es : EntriesSoFar) (opened : ℕ) (k : List ℕ) (i : ℕ)
-    → (r.strict && is_some (find k es)) ≡ true
-    → from_closed r bs (as_key fs es opened) k i ≡ refused (limit (duplicate (opened - left_at bs (i - 1))))
-    (chars (drop (i - 1) bs))
-key_refused r bs fs es opened k i e =
-    ap (λ t. outcome_on (go (breach_if t (duplicate (opened - left_at bs (i - 1)))) (after_key fs es k))
+-- after the closing quote of a key, which may be rejected
+pub key_closed : (r : Reading) (bs : List ℕ) (fs : Frames) (es : EntriesSoFar) (opened : ℕ) (k : List ℕ) (i : ℕ) (t : Bool)
+    → (r.strict && is_some (find k es)) ≡ t → from_closed r bs (as_key fs es opened) k i
+    ≡ outcome_on (go (breach_if t (duplicate (opened - left_at bs (i - 1)))) (after_key fs es k))
+    (λ p. from r bs p i) (chars (drop (i - 1) bs))
+key_closed r bs fs es opened k i t e =
+    ap (λ b. outcome_on (go (breach_if b (duplicate (opened - left_at bs (i - 1)))) (after_key fs es k))
     (λ p. from r bs p i) (chars (drop (i - 1) bs))) e

@@ -120,17 +120,12 @@ module _ (r : Reading) (v : Value) (role : Role) (Closed : List ℕ → List ℕ
       let g = ih (code n (add_hex u c)) bs h in (c ∷ g.0, g.1, (e, g.2), ap (λ z. c ∷ z) g.3, g.4)
   code_on false n u bs c cs e h ih = absurd h
 
-  second_on : (a : Bool) (w : ℕ) (bs : List ℕ) (c : ℕ) (cs : List ℕ) → c == 92 ≡ a
-      → On (cond a (go None (string role bs (second_backslash w))) bad) (λ p. Goes r v cs p)
-      → Rest cs → Second bs w (c ∷ cs)
-  second_on true w bs c cs e h ih = (cs, ap (λ z. z ∷ cs) (eqb-true c 92 e), ih (second_backslash w) bs h)
-  second_on false w bs c cs e h ih = absurd h
-
-  second_backslash_on : (a : Bool) (w : ℕ) (bs : List ℕ) (c : ℕ) (cs : List ℕ) → c == 117 ≡ a
-      → On (cond a (go None (string role bs (second_code w 3 0))) bad) (λ p. Goes r v cs p)
-      → Rest cs → SecondSlash bs w (c ∷ cs)
-  second_backslash_on true w bs c cs e h ih = (cs, ap (λ z. z ∷ cs) (eqb-true c 117 e), ih (second_code w 3 0) bs h)
-  second_backslash_on false w bs c cs e h ih = absurd h
+  -- the state y after this character alone
+  expected_on : (a : Bool) (x : ℕ) (y : StringState) (bs : List ℕ) (c : ℕ) (cs : List ℕ) → c == x ≡ a
+      → On (cond a (go None (string role bs y)) bad) (λ p. Goes r v cs p) → Rest cs
+      → (t : List ℕ) × (c ∷ cs ≡ x ∷ t) × Left y bs t
+  expected_on true x y bs c cs e h ih = (cs, ap (λ z. z ∷ cs) (eqb-true c x e), ih y bs h)
+  expected_on false x y bs c cs e h ih = absurd h
 
   paired_on : (a : Bool) (w u : ℕ) (bs cs : List ℕ) → On (move_pair a role bs w u) (λ p. Goes r v cs p) → Rest cs
       → ItemsLeft (bs ++ encode_utf8_all (if a then pair_char w u ∷ [] else [])) cs
@@ -151,6 +146,7 @@ module _ (r : Reading) (v : Value) (role : Role) (Closed : List ℕ → List ℕ
       between_on (c == 34) (c == 92) (is_unescaped c) bs c cs refl refl refl h ih after
   string_on after_backslash bs c cs h ih after = after_backslash_on (c == 117) (is_simple c) bs c cs refl refl h ih
   string_on (code n u) bs c cs h ih after = code_on (is_ascii_hexdigit c) n u bs c cs refl h ih
-  string_on (second w) bs c cs h ih after = second_on (c == 92) w bs c cs refl h ih
-  string_on (second_backslash w) bs c cs h ih after = second_backslash_on (c == 117) w bs c cs refl h ih
+  string_on (second w) bs c cs h ih after = expected_on (c == 92) 92 (second_backslash w) bs c cs refl h ih
+  string_on (second_backslash w) bs c cs h ih after =
+      expected_on (c == 117) 117 (second_code w 3 0) bs c cs refl h ih
   string_on (second_code w n u) bs c cs h ih after = second_code_on (is_ascii_hexdigit c) w n u bs c cs refl h ih

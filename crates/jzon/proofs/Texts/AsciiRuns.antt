@@ -50,9 +50,12 @@ pub space_is_ascii : (s : Bool) (c : ℕ) → is_whitespace s c ≡ true → c <
 space_is_ascii true c e = grind (arith, nat_tests)
 space_is_ascii false c e = grind (arith, nat_tests)
 
+pub above_is_no_space : (s : Bool) (c : ℕ) → 32 < c → is_whitespace s c ≡ false
+above_is_no_space true c lt = grind (arith, nat_tests)
+above_is_no_space false c lt = grind (arith, nat_tests)
+
 pub wide_is_no_space : (s : Bool) (c : ℕ) → 128 ≤ c → is_whitespace s c ≡ false
-wide_is_no_space true c le = grind (arith, nat_tests)
-wide_is_no_space false c le = grind (arith, nat_tests)
+wide_is_no_space s c le = above_is_no_space s c (omega (arith, le))
 
 pub before_skips : (r : Reading) (fs : Frames) → Skips r (before fs) (is_whitespace r.strict)
 before_skips r fs = record { ascii = space_is_ascii r.strict; stays = λ c n e. rw (whitespace-class r c e) refl }
@@ -94,10 +97,6 @@ stops_run test bs i n e lt =
     rw (← e, get_or-drop i bs n 0) at (prefix_len_stops test (drop i bs) 0 k)
 
 -- ---- only whitespace
-
-above_is_no_space : (s : Bool) (c : ℕ) → 32 < c → is_whitespace s c ≡ false
-above_is_no_space true c lt = grind (arith, nat_tests)
-above_is_no_space false c lt = grind (arith, nat_tests)
 
 pub space_alone : (s : Bool) (bs : List ℕ) (i : ℕ) → i + 1 < length bs → get_or bs i 0 ≡ 32 → 32 < get_or bs (i + 1) 0
     → 1 ≡ prefix_len (is_whitespace s) (drop i bs)

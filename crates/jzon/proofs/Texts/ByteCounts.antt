@@ -76,6 +76,29 @@ bytes_by c x y z = cond x (c ∷ [])
     (cond z ((224 + c / 4096) ∷ (128 + c / 64 % 64) ∷ (128 + c % 64) ∷ [])
     ((240 + c / 262144) ∷ (128 + c / 4096 % 64) ∷ (128 + c / 64 % 64) ∷ (128 + c % 64) ∷ [])))
 
+-- p is the same of each byte that begins a wide character, and false of the bytes after it
+counts_by : (p q : ℕ → Bool) (first : Bool) → ((b : ℕ) → 192 ≤ b → p b ≡ first)
+    → ((b : ℕ) → 128 ≤ b → b < 192 → p b ≡ false) → (c : ℕ) → (ltb c 128 ≡ true → p c ≡ q c)
+    → (ltb c 128 ≡ false → q c ≡ first) → (x y z : Bool) → ltb c 128 ≡ x → count_by p (bytes_by c x y z) ≡ cond (q c) 1 0
+counts_by p q first lead next c small large true y z e = rw (small e) (zero-add (cond (q c) 1 0))
+counts_by p q first lead next c small large false true z e =
+    rw (lead (192 + c / 64) (omega arith), next (128 + c % 64) (omega arith) (omega arith), large e) (omega arith)
+counts_by p q first lead next c small large false false true e =
+    rw (
+      lead (224 + c / 4096) (omega arith),
+      next (128 + c / 64 % 64) (omega arith) (omega arith),
+      next (128 + c % 64) (omega arith) (omega arith),
+      large e,
+    ) (omega arith)
+counts_by p q first lead next c small large false false false e =
+    rw (
+      lead (240 + c / 262144) (omega arith),
+      next (128 + c / 4096 % 64) (omega arith) (omega arith),
+      next (128 + c / 64 % 64) (omega arith) (omega arith),
+      next (128 + c % 64) (omega arith) (omega arith),
+      large e,
+    ) (omega arith)
+
 -- ---- newlines
 
 abbrev pub is_newline : ℕ → Bool
@@ -87,29 +110,10 @@ wide b le = ne_eqb b 10 (λ e. omega (arith, e))
 wide_char : (c : ℕ) → ltb c 128 ≡ false → is_newline c ≡ false
 wide_char c e = ne_eqb c 10 (λ q. grind (arith, e, q))
 
-newline-by : (c : ℕ) (x y z : Bool) → ltb c 128 ≡ x → count_by is_newline (bytes_by c x y z) ≡ cond (is_newline c) 1 0
-newline-by c true y z e = zero-add (cond (is_newline c) 1 0)
-newline-by c false true z e =
-    rw (wide (192 + c / 64) (omega arith), wide (128 + c % 64) (omega arith), wide_char c e) refl
-newline-by c false false true e =
-    rw (
-      wide (224 + c / 4096) (omega arith),
-      wide (128 + c / 64 % 64) (omega arith),
-      wide (128 + c % 64) (omega arith),
-      wide_char c e,
-    ) refl
-newline-by c false false false e =
-    rw (
-      wide (240 + c / 262144) (omega arith),
-      wide (128 + c / 4096 % 64) (omega arith),
-      wide (128 + c / 64 % 64) (omega arith),
-      wide (128 + c % 64) (omega arith),
-      wide_char c e,
-    ) refl
-
 newline : (c : ℕ) → count_by is_newline (encode_utf8 c) ≡ cond (is_newline c) 1 0
 unfolding encode_utf8
-newline c = newline-by c (ltb c 128) (ltb c 2048) (ltb c 65536) refl
+newline c = counts_by is_newline is_newline false (λ b le. wide b (omega (arith, le))) (λ b le lt. wide b le) c (λ e. refl)
+    (wide_char c) (ltb c 128) (ltb c 2048) (ltb c 65536) refl
 
 pub newlines_of : (bs : List ℕ) → IsUtf8 bs → ((k : ℕ) → Fits w8 (get_or bs k 0))
     → count_by (is_below 10 1) bs ≡ count_by is_newline (chars bs)
@@ -127,27 +131,10 @@ lead b le = grind (arith)
 next : (b : ℕ) → 128 ≤ b → b < 192 → begins b ≡ false
 next b le lt = grind (arith)
 
-begin-by : (c : ℕ) (x y z : Bool) → ltb c 128 ≡ x → count_by begins (bytes_by c x y z) ≡ 1
-begin-by c true y z e = rw e refl
-begin-by c false true z e =
-    rw (lead (192 + c / 64) (omega arith), next (128 + c % 64) (omega arith) (omega arith)) refl
-begin-by c false false true e =
-    rw (
-      lead (224 + c / 4096) (omega arith),
-      next (128 + c / 64 % 64) (omega arith) (omega arith),
-      next (128 + c % 64) (omega arith) (omega arith),
-    ) refl
-begin-by c false false false e =
-    rw (
-      lead (240 + c / 262144) (omega arith),
-      next (128 + c / 4096 % 64) (omega arith) (omega arith),
-      next (128 + c / 64 % 64) (omega arith) (omega arith),
-      next (128 + c % 64) (omega arith) (omega arith),
-    ) refl
-
 begin : (c : ℕ) → count_by begins (encode_utf8 c) ≡ 1
 unfolding encode_utf8
-begin c = begin-by c (ltb c 128) (ltb c 2048) (ltb c 65536) refl
+begin c = counts_by begins (λ _. true) true lead next c (λ e. rw e refl) (λ e. refl) (ltb c 128) (ltb c 2048) (ltb c 65536)
+    refl
 
 all_of : (cs : List ℕ) → count_by (λ _. true) cs ≡ length cs
 all_of [] = refl

@@ -36,18 +36,18 @@ pub reports_pair : (bs : List ℕ) (i : ℕ) (o : Outcome) → IsUtf8 bs → IsC
     → o ≡ refused (limit pair) (chars (drop i bs)) → Reports bs (Surrogates i) o
 reports_pair bs i o u at q = subst (Reports bs (Surrogates i)) (sym q) (at, refl, before_boundary bs i u at)
 
-pub prefix_of : (f rest : List ℕ) (i : ℕ) → i ≡ length f → take i (f ++ rest) ≡ f
-prefix_of f rest i e = ap (λ k. take k (f ++ rest)) e ∙ take-append_seam f rest
+-- the characters before a boundary, by their number
+pub prefix_at : (bs : List ℕ) (i n : ℕ) → IsUtf8 bs → IsCharBoundary bs i → n ≡ length (chars (take i bs))
+    → take n (chars bs) ≡ chars (take i bs)
+prefix_at bs i n u at e =
+    rw (chars_split bs i u at, e) (take-append_seam (chars (take i bs)) (chars (drop i bs)))
 
 pub reports_inexact : (bs : List ℕ) (i : ℕ) (o : Outcome) → IsUtf8 bs → IsCharBoundary bs i
     → o ≡ refused (limit inexact) (chars (drop i bs)) → Reports bs (Inexact i) o
 reports_inexact bs i o u at q =
-    let split = chars_split bs i u at in
-    let whole : length (chars bs) - left_at bs i ≡ length (chars (take i bs)) = sym (before_boundary bs i u at) in
-    let prefix : take (length (chars bs) - left_at bs i) (chars bs) ≡ chars (take i bs) =
-    ap (take (length (chars bs) - left_at bs i)) split ∙ prefix_of (chars (take i bs)) (chars (drop i bs)) _ whole in
-    subst (Reports bs (Inexact i)) (sym q)
-    (at, ap (λ f. InexactNumber (line f) (column f)) (sym prefix), sym whole)
+    let whole = before_boundary bs i u at in
+    let prefix = prefix_at bs i (length (chars bs) - left_at bs i) u at (sym whole) in
+    subst (Reports bs (Inexact i)) (sym q) (at, ap (λ f. InexactNumber (line f) (column f)) (sym prefix), whole)
 
 -- the error, and the number of characters before its offset, are those of this outcome of a text
 abbrev Tells : List ℕ → ℕ → Error → Outcome → Type 0
@@ -93,13 +93,9 @@ pub reports_duplicate : (bs : List ℕ) (i j : ℕ) → IsUtf8 bs → IsCharBoun
     → Reports bs (Duplicate i)
     (refused (limit (duplicate (left_at bs i - left_at bs j))) (chars (drop j bs)))
 reports_duplicate bs i j u from to le =
-    let split = chars_split bs i u from in
-    let whole : length (chars bs) ≡ length (chars (take i bs)) + left_at bs i = ap length split
+    let whole : length (chars bs) ≡ length (chars (take i bs)) + left_at bs i = ap length (chars_split bs i u from)
     ∙ length-append (chars (take i bs)) (chars (drop i bs)) in
     let at : length (chars bs) - left_at bs j - (left_at bs i - left_at bs j)
     ≡ length (chars (take i bs)) = omega (arith, whole, left_after bs i j u from to le) in
-    let prefix : take (length (chars bs) - left_at bs j - (left_at bs i - left_at bs j)) (chars bs)
-    ≡ chars (take i bs) =
-    ap (take (length (chars bs) - left_at bs j - (left_at bs i - left_at bs j))) split
-    ∙ prefix_of (chars (take i bs)) (chars (drop i bs)) _ at in
+    let prefix = prefix_at bs i (length (chars bs) - left_at bs j - (left_at bs i - left_at bs j)) u from at in
     (from, ap (λ f. DuplicateKey (line f) (column f)) (sym prefix), sym at)

@@ -1,5 +1,5 @@
 -- The error of a text with its place, from where the parser stopped.
-use Rattle.jzon_base.proofs.Common.{◌≡◌, inl, inr, ℕ, ◌-◌, List, length, take, drop, sym, ap, ◌∙◌, refl}
+use Rattle.jzon_base.proofs.Common.{◌≡◌, inl, inr, ℕ, ◌-◌, List, length, take, sym, ap, refl}
 use Rattle.jzon_base.proofs.Common.{chars, IsUtf8, IsCharBoundary}
 use Rattle.jzon.specs.Reading.{Reading}
 use Rattle.jzon.specs.Fault.{Fault, line, column}
@@ -10,7 +10,7 @@ use Rattle.jzon.specs.Private.Stops.{stop_place, reported_error}
 use Rattle.jzon.specs.declared.stop.Stop.{Stop}
 use Rattle.jzon.specs.declared.stop.Stop.TheVariants.{Memory, Limit, Surrogates, At, Duplicate, Inexact}
 use Rattle.jzon.specs.declared.located.LocatedError.{LocatedError}
-use Rattle.jzon.proofs.Texts.FaultOffsets.{chars_split, prefix_of}
+use Rattle.jzon.proofs.Texts.FaultOffsets.{prefix_at}
 use Rattle.jzon.proofs.Texts.ReportedErrors.{reports_no_memory}
 use Rattle.jzon.proofs.Texts.Verdict.{Verdict, answers}
 
@@ -20,8 +20,7 @@ located bytes e = record { error = reported_error bytes e; place = stop_place by
 place_of : (bytes : List ℕ) (i n : ℕ) → IsUtf8 bytes → IsCharBoundary bytes i → length (chars (take i bytes)) ≡ n
     → IsPlaceOf bytes n (place_at bytes i)
 place_of bytes i n u at e =
-    let before : take n (chars bytes) ≡ chars (take i bytes) =
-    ap (take n) (chars_split bytes i u at) ∙ prefix_of (chars (take i bytes)) (chars (drop i bytes)) n (sym e) in
+    let before = prefix_at bytes i n u at (sym e) in
     record { boundary = at; before = e; line = ap line (sym before); column = ap column (sym before) }
 
 located_at : (r : Reading) (bytes : List ℕ) (e : Stop) (f : Fault) (rest : List ℕ) → IsUtf8 bytes

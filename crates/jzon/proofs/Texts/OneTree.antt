@@ -3,19 +3,18 @@
 -- character after a part decides where the part ends.
 use Rattle.jzon_base.proofs.Common.{◌≡◌, ◌∙◌, ℕ, zero, suc, List, [], ◌∷◌, ◌++◌, Bool, true, false, cond, ◌==◌, Option}
 use Rattle.jzon_base.proofs.Common.{Some, None, refl, sym, subst, ap, arith, append-nil, IsTrue, ⊤, is_ascii_digit}
-use Rattle.jzon_base.proofs.Common.{and_parts}
 use Rattle.jzon_tree.specs.Writing.{is_whitespace}
 use Rattle.jzon.specs.Reading.{Reading}
 use Rattle.jzon.specs.Grammar.{Sign, unsigned, plus, minus, Exponent, Numeral, Item, simple, single, double, Key, Node}
 use Rattle.jzon.specs.Grammar.{Elements, no_elements, element, Members, no_members, member, Document, Each}
-use Rattle.jzon.specs.Grammar.{IsWhitespace, AreDigits, IsDigits, IsWhole, IsExponent, IsNumeral, AreHex, AreItems}
+use Rattle.jzon.specs.Grammar.{IsWhitespace, AreDigits, IsDigits, IsExponent, IsNumeral, AreHex, AreItems}
 use Rattle.jzon.specs.Grammar.{IsKey, IsNode, AreElements, AreMembers, IsDocument, is_surrogate, code_unit}
 use Rattle.jzon.specs.Grammar as grammar
 use Rattle.jzon.specs.Fault.{Spells}
 use Rattle.jzon.specs.Private.Classes.{Class, whitespace, digits, minus_char, plus_char, point, letter_e, quote}
 use Rattle.jzon.specs.Private.Classes.{opens_array, closes_array, opens_object, closes_object, comma, colon}
 use Rattle.jzon.specs.Private.Classes.{begins_null, begins_true, begins_false, class_of}
-use Rattle.jzon.proofs.Texts.ClassesOfCharacters.{whitespace-class, digits-class, letter_e-class, class-char, char_of}
+use Rattle.jzon.proofs.Texts.ClassesOfCharacters.{whitespace-class, digits-class, letter_e-class, class-char, char_of, whole_digits}
 use Rattle.jzon.proofs.Strings.StringCharacters.{plain_parts, simple_not_u}
 use Rattle.jzon.specs.TreeCharacters.{fraction_chars, sign_chars, exponent_chars, magnitude_chars, numeral_chars}
 use Rattle.jzon.specs.TreeCharacters.{items_chars, key_chars, node_chars, elements_chars, members_chars}
@@ -150,11 +149,6 @@ module _ (r : Reading) where
   same_fraction (d ∷ ds) (c ∷ es) x y t u ok ko x_ok y_ok h k e =
       same_digits (d ∷ ds) (c ∷ es) (exponent_chars x t) (exponent_chars y u) ok ko
       (exponent_not digits x t refl (λ f. cc) x_ok h) (exponent_not digits y u refl (λ f. cc) y_ok k) (cc)
-
-  whole_digits : (ds : List ℕ) → IsWhole ds → IsDigits ds
-  whole_digits [] ok = ok
-  whole_digits (d ∷ []) ok = (ok, tt)
-  whole_digits (d ∷ e ∷ ds) ok = ((and_parts _ _ ok.0).0, ok.1)
 
   same_magnitude : (m n : Numeral) (t u : List ℕ) → IsNumeral m → IsNumeral n → Stops t → Stops u
       → magnitude_chars m t ≡ magnitude_chars n u

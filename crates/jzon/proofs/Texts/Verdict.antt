@@ -4,7 +4,7 @@
 -- each that no fault is before it. docs/ARCHITECTURE.md walks through them.
 use Rattle.jzon_base.proofs.Common.{◌≡◌, ◌⊎◌, ℕ, suc, ◌-◌, ◌<◌, ◌≤◌, List, [], ◌∷◌, ◌++◌, length, take, Option, Some}
 use Rattle.jzon_base.proofs.Common.{None, inl, inr, refl, sym, subst, ap, ◌∙◌, slice_get, arith, append_assoc}
-use Rattle.jzon_base.proofs.Common.{append-nil, length-append, Bool, take-append-le, take-append_seam}
+use Rattle.jzon_base.proofs.Common.{append-nil, length-append, length-map, nil_from_length, Bool, take-append-le, take-append_seam}
 use Rattle.jzon_tree.specs.Value.{Value}
 use Rattle.jzon.specs.Reading.{Reading}
 use Rattle.jzon.specs.Grammar.{Document}
@@ -17,7 +17,7 @@ use Rattle.jzon.specs.Fault.{Spells, Completes, HasCompletion, AllBreakAt, Parse
 use Rattle.jzon.specs.Fault.{IsDepthFault, IsFault, IsFirstFault}
 use Rattle.jzon.specs.Laws.{HasOneTree, HasOneFault}
 use Rattle.jzon.proofs.Texts.Faults.{completes_take, no_fault_at, no_fault, has_one_fault}
-use Rattle.jzon.proofs.Texts.Cells.{chars_of, marks_of, plain_unmarked, all_unmarked, mark_after}
+use Rattle.jzon.proofs.Texts.Cells.{marks_of, plain_unmarked, all_unmarked, mark_after}
 use Rattle.jzon.proofs.Texts.Runs.{Meets, Follows}
 use Rattle.jzon.proofs.Texts.Closing.{closer}
 use Rattle.jzon.proofs.Texts.AlikeStates.{last-alike, mark-alike, IsDeep, deep_of_go, deep_of_bad_deep, deep_not_bad}
@@ -137,16 +137,13 @@ module _ (r : Reading) (f u : List ℕ) (c left : ℕ) (p : State) (reached : Re
 
 -- ---- the end of the text
 
-no_cells_left : (q : List Cell) → chars_of q ≡ [] → q ≡ []
-no_cells_left [] e = refl
-no_cells_left (y ∷ q) e = absurd (cc)
-
 -- a tree that spells f leads to its meaning, and has no mark
 spelled : (r : Reading) (f : List ℕ) (p : State) (d : Document) → Reaches r f 0 p → Spells r f d
     → (last p ≡ meant (meaning d.node)) × (cells r d ≡ plain f [])
 spelled r f p d reached h =
     let g = reached.onward d (h.0, [], h.1 ∙ sym (append-nil f)) in
-    let none : g.cells_left ≡ [] = no_cells_left g.cells_left g.text in (
+    let none : g.cells_left ≡ [] = nil_from_length g.cells_left
+    (sym (length-map g.cells_left (λ x. x.char)) ∙ ap length g.text) in (
       last-alike 0 (length g.cells_left) p g.place g.alike
           ∙ subst (λ z. Follows r (λ o. o ≡ meant (meaning d.node)) z g.place) none g.follows,
       g.split ∙ ap (plain f) none,

@@ -3,13 +3,14 @@ use Rattle.jzon_base.proofs.Common.{◌≡◌, ℕ, zero, suc, ◌+◌, ◌-◌,
 use Rattle.jzon_base.proofs.Common.{List, [], ◌∷◌, length, take, drop, get_or, map, replicate, bit_or, Fits, w8, refl}
 use Rattle.jzon_base.proofs.Common.{sym, ap, ◌∙◌, arith, nat_tests, prefix_len, length-drop, length-map, pow-suc}
 use Rattle.jzon_base.proofs.Common.{cases_lt, inl, inr, take_rest, chunk-fits, length-chunk, map-map, mask_l-mod}
-use Rattle.jzon_base.proofs.Common.{zip2_splat}
+use Rattle.jzon_base.proofs.Common.{zip2_splat, true≢false}
 use Rattle.std.proofs.lemmas.Bool.{agree_below_at}
 use Rattle.std.proofs.lemmas.List.Sums.{prefix_len_passes}
 use Rattle.std.proofs.lemmas.Simd.{leading_from_mask_l, trailing_mask_l, zip2_of_maps}
 use lib.Count.{count_trailing_zeros}
 use lib.Lanes.{Each1, chunk, mask_l, top, zip2}
 use Rattle.jzon_tree.specs.Writing.{is_whitespace}
+use Rattle.jzon.proofs.Texts.AsciiRuns.{above_is_no_space}
 use Rattle.jzon_base.proofs.Strings.PlainBlocks.{past, prefix_ends, prefix_passes, same_run}
 
 abbrev equal : ℕ → ℕ → ℕ
@@ -135,17 +136,13 @@ pub in_any : (s : Bool) (d : List ℕ) (n : ℕ) → n ≤ prefix_len (is_whites
     → n ≤ prefix_len (is_whitespace s) d
 in_any s d n more = omega (arith, more, grows s d)
 
-above_is_none : (s : Bool) (c : ℕ) → 32 < c → is_whitespace s c ≡ true → ⊥
-above_is_none true c lt h = grind (arith, nat_tests)
-above_is_none false c lt h = grind (arith, nat_tests)
-
 -- it ends at a byte above the space
 pub ends_above : (s : Bool) (d : List ℕ) (i : ℕ) → i ≤ prefix_len (is_whitespace s) d → 32 < get_or d i 0
     → i ≡ prefix_len (is_whitespace s) d
 ends_above s d i before above =
     elim (cases_lt i (prefix_len (is_whitespace s) d)) [
       | inl lt ↦
-          absurd (above_is_none s (get_or d i 0) above (prefix_len_passes (is_whitespace s) d i 0 lt))
+          absurd (true≢false (sym (prefix_len_passes (is_whitespace s) d i 0 lt) ∙ above_is_no_space s (get_or d i 0) above))
       | inr ge ↦ omega (arith, before, ge)
     ]
 

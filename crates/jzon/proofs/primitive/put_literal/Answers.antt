@@ -4,13 +4,13 @@ use Rattle.jzon.specs.Reading.{Reading, usual}
 use Rattle.jzon.specs.Private.Machine.{Frames, no_frames, before, value_mark}
 use Rattle.jzon.proofs.Containers.PutValues.{puts_none}
 use Rattle.jzon.proofs.Texts.ReportedErrors.{reported, fails_without_memory}
-use Rattle.jzon.proofs.Containers.WholeLiterals.{Begins, Spells, WordEnds, word_begins, word_ends}
+use Rattle.jzon.proofs.Containers.WholeLiterals.{Begins, ByFirst, WordEnds, word_begins, word_ends}
 use Rattle.jzon.proofs.primitive.put_literal.Given.{Over}
 use Rattle.jzon.proofs.primitive.put_literal.Goals.{After-has_four}
 use Rattle.jzon.proofs.primitive.put_literal.Goals as goal
 
 -- the last four letters of the literal
-spells : (g : Over) (c : After-has_four g) → Spells c.args.first c.literal-value.result.1
+spells : (g : Over) (c : After-has_four g) → ByFirst c.args.first c.literal-value.result.1
     (110 ∷ 117 ∷ 108 ∷ 108 ∷ []) (116 ∷ 114 ∷ 117 ∷ 101 ∷ []) (97 ∷ 108 ∷ 115 ∷ 101 ∷ [])
 spells g c = record {
   null = λ e. (c.literal-value.ensures.null e).1;

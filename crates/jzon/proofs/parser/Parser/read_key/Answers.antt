@@ -12,7 +12,7 @@ use Rattle.jzon.proofs.Containers.ContainerTokens.{key_closes, key_missing}
 use Rattle.jzon.proofs.Containers.FrameViews.{byte_within}
 use Rattle.jzon.proofs.Containers.OpenItems.{at_key, no_key_mark, no_entries, key_here, key_keeps, key_awaits}
 use Rattle.jzon.proofs.Containers.OpenItems.{goes_as}
-use Rattle.jzon.proofs.Strings.Quotes.{key_refused, key_goes}
+use Rattle.jzon.proofs.Strings.Quotes.{key_closed}
 use Rattle.jzon.proofs.Texts.Cursors.{utf8_of, reported_on, fails_on}
 use Rattle.jzon.specs.declared.stop.Stop.TheVariants.{Duplicate}
 use Rattle.jzon.proofs.Texts.FaultOffsets.{reports_duplicate}
@@ -76,7 +76,7 @@ returns-then-branch-clause-outcome c =
     (reported t.source.now (Duplicate t.index) _ _
     (key_closes t fs es text end (sym c.peek.ensures ∙ c.if-peek-ne34.false) (no_key_mark t s c.requires.before.room)
     (c.in_ok-spelled.ensures.outcome t.reading (as_key fs es (left_at t.source.now t.index)))
-    ∙ key_refused t.reading t.source.now fs es (left_at t.source.now t.index) text end known)
+    ∙ key_closed t.reading t.source.now fs es (left_at t.source.now t.index) text end true known)
     (reports_duplicate t.source.now t.index (end - 1) (utf8_of t) t.boundary c.in_ok-spelled.ensures.quote.1
     (omega (arith, c.in_ok-spelled.ensures.quote.0))))
 
@@ -104,7 +104,7 @@ returns-clause-outcome c =
     (c.pass_colon.ensures (before_item s) fs es text ((at_key t s c.requires.object).same
     ∙ key_closes t fs es text end (sym c.peek.ensures ∙ c.if-peek-ne34.false) (no_key_mark t s c.requires.before.room)
     (c.in_ok-spelled.ensures.outcome t.reading (as_key fs es (left_at t.source.now t.index)))
-    ∙ key_goes t.reading t.source.now fs es (left_at t.source.now t.index) text end new))
+    ∙ key_closed t.reading t.source.now fs es (left_at t.source.now t.index) text end false new))
 
 on_ok : {T E P : Type 0} (r : Result T E) → P → OnOk r P
 on_ok (Ok x) p = p

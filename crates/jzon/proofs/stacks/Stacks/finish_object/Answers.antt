@@ -1,5 +1,5 @@
 use Rattle.jzon_base.proofs.Common.{◌≡◌, ◌∙◌, ℕ, List, [], length, zip, ap, sym, subst, refl}
-use Rattle.jzon_base.proofs.Common.{false, is_some, IfSome}
+use Rattle.jzon_base.proofs.Common.{false, is_some, IfSome, IfOk-weaker}
 use Rattle.std.proofs.lemmas.Option.{IfSome_then}
 use Rattle.jzon_base.specs.PairList.{put_each}
 use Rattle.jzon_base.specs.Private.KnownKeys.{Knows}
@@ -13,7 +13,7 @@ use Rattle.jzon.specs.Private.OpenContainers.{OpenContainers, HasAllValues, whol
 use Rattle.jzon.specs.Private.Stacks.{containers_of, IsLaidOut}
 use Rattle.jzon.specs.declared.container_kind.ContainerKind.TheVariants as kinds
 use Rattle.jzon.specs.declared.stacks.Stacks.TheInside.{Inside}
-use Rattle.jzon.proofs.Containers.StackParts.{if_none, if_ok, IsLaidOut-keys_left, IsLaidOut-taken, IsLaidOut-values_taken, keys_here, values_here}
+use Rattle.jzon.proofs.Containers.StackParts.{if_none, IsLaidOut-keys_left, IsLaidOut-taken, IsLaidOut-values_taken, keys_here, values_here}
 use Rattle.jzon.proofs.stacks.Stacks.finish_object.Goals as goal
 
 -- the keys and values that were taken are those of the outermost container
@@ -59,7 +59,7 @@ invariant_of-self-then-is_some c = IsLaidOut-taken c.self.inside c.args.self.now
     c.object_of_known.ensures.known)
 
 pub returns-then-is_some : goal.returns-then-is_some
-returns-then-is_some c = if_ok _ _ c.object_of_known.result
+returns-then-is_some c = IfOk-weaker c.object_of_known.result _ _
     (means c.self.inside c.args.self.now c.self.invariant c.self.view_is c.requires.outermost c.in_ok-keys.keys.items
     c.in_ok-keys.ensures.all c.in_ok-values.values.items c.in_ok-values.ensures.all c.requires.object)
     c.object_of_known.ensures.pairs
@@ -77,7 +77,7 @@ invariant_of-self-2 c = IsLaidOut-taken c.self.inside c.args.self.now c.self.inv
     (if_none _ c.self.inside.known (cc (c.if-is_some.false, c.is_some.ensures)))
 
 pub returns : goal.returns
-returns c = if_ok _ _ c.from_entries.result
+returns c = IfOk-weaker c.from_entries.result _ _
     (means c.self.inside c.args.self.now c.self.invariant c.self.view_is c.requires.outermost c.in_ok-keys.keys.items
     c.in_ok-keys.ensures.all c.in_ok-values.values.items c.in_ok-values.ensures.all c.requires.object)
     c.from_entries.ensures.pairs
