@@ -85,9 +85,6 @@ module _ (r : Reading) (G : Outcome → Type 0) (fs : Frames) (negative : Bool) 
         → Reads y k (move_numeral r x class fs negative y.char)
     ends : G (meant_at fs (number_value negative ws [] None)) → G (last_numeral x fs negative)
 
-  zero_ends : EndsWhole zero_read (48 ∷ [])
-  zero_ends = record { past = λ class y k h. h; ends = λ h. h }
-
   past_digits : (class : Class) (ds : List ℕ) (y : Cell) (k : List Cell)
       → Reads y k (move_after_whole class fs negative (onto ds []) y.char)
       → Reads y k (move_numeral r (whole ds) class fs negative y.char)
@@ -129,7 +126,8 @@ module _ (r : Reading) (G : Outcome → Type 0) (fs : Frames) (negative : Bool) 
       → ((x : NumberState) → EndsWhole x (d ∷ es) → F k x)
       → F (digits_cells (whole_breach r) (d ∷ []) es k) (after_first_digit is_zero d)
   read_first true d [] k e ok h =
-      h zero_read (subst (λ z. EndsWhole zero_read (z ∷ [])) (sym (eqb-true d 48 e)) zero_ends)
+      h zero_read (subst (λ z. EndsWhole zero_read (z ∷ [])) (sym (eqb-true d 48 e))
+      (record { past = λ class y k h. h; ends = λ h. h }))
   read_first true d (x ∷ es) k e ok h = absurd (true≢false (sym e ∙ not-true _ (and_parts _ _ ok.0).1))
   read_first false d [] k e ok h = h (whole (d ∷ [])) (digits_end (d ∷ []))
   read_first false d (x ∷ es) k e ok h =

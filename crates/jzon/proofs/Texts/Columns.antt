@@ -9,9 +9,7 @@ use Rattle.std.specs.List.{suffix_len}
 use Rattle.std.proofs.lemmas.List.{length-append}
 use Rattle.std.proofs.lemmas.List.Sums.{suffix_len_is}
 use Rattle.jzon.specs.Fault.{column}
-
-abbrev is_newline : ℕ → Bool
-is_newline c = c == 10
+use Rattle.jzon.proofs.Texts.ByteCounts.{is_newline}
 
 abbrev is_in_line : ℕ → Bool
 is_in_line c = not (c == 10)

@@ -1,6 +1,6 @@
 -- One move of the automaton, by the byte at an offset of a text: it goes on, stops, reports a depth limit, or the text
 -- ends.
-use Rattle.jzon_base.proofs.Common.{◌≡◌, ◌⊎◌, inl, inr, ℕ, ◌+◌, ◌<◌, ◌≤◌, List, [], ◌∷◌, length, drop, get_or}
+use Rattle.jzon_base.proofs.Common.{◌≡◌, inl, inr, ℕ, ◌+◌, ◌<◌, ◌≤◌, List, [], ◌∷◌, length, drop, get_or}
 use Rattle.jzon_base.proofs.Common.{refl, sym, ap, subst, ◌∙◌, arith, drop-cons, add-one, None, chars, IsUtf8}
 use Rattle.jzon_base.proofs.Common.{encode_utf8, encode_utf8_all, ◌++◌, IsTrue, is_ascii_digit, IsCharBoundary}
 use Rattle.jzon_base.proofs.Common.{cases_lt, nat_tests, length-drop, get_or-drop, nil_from_length, IsUtf8-drop}
@@ -75,11 +75,10 @@ byte_there bs i c cs u at e lt =
 -- what holds of the byte at an offset, and of each character past ASCII, holds of the character there
 pub by_character : (P : ℕ → Type 0) (bs : List ℕ) (i c : ℕ) → (i < length bs → P (get_or bs i 0))
     → ((x : ℕ) → 128 ≤ x → P x) → (c < 128 → (i < length bs) × (get_or bs i 0 ≡ c)) → P c
-by_character P bs i c here wide there = either (cases_lt c 128)
-  where
-    either : (c < 128) ⊎ (128 ≤ c) → P c
-    either (inl lt) = let k = there lt in subst P k.1 (here k.0)
-    either (inr le) = wide c le
+by_character P bs i c here wide there = elim (cases_lt c 128) [
+  | inl lt ↦ (let k = there lt in subst P k.1 (here k.0))
+  | inr le ↦ wide c le
+]
 
 pub stops_by : (r : Reading) (p : State) (bs : List ℕ) (i : ℕ) → last p ≡ refused Fault.end []
     → (i < length bs → move r p (get_or bs i 0) (left_at bs i) ≡ bad)

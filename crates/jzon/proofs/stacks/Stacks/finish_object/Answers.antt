@@ -1,5 +1,5 @@
 use Rattle.jzon_base.proofs.Common.{◌≡◌, ◌∙◌, ℕ, List, [], length, zip, ap, sym, subst, refl}
-use Rattle.jzon_base.proofs.Common.{false, is_some, IfSome, IfOk-weaker}
+use Rattle.jzon_base.proofs.Common.{IfSome, IfOk-weaker}
 use Rattle.std.proofs.lemmas.Option.{IfSome_then}
 use Rattle.jzon_base.specs.PairList.{put_each}
 use Rattle.jzon_base.specs.Private.KnownKeys.{Knows}

@@ -1,4 +1,4 @@
-use Rattle.jzon_base.proofs.Common.{◌≡◌, ◌∙◌, ◌++◌, ◌∷◌, [], false, ap, sym, subst, is_some}
+use Rattle.jzon_base.proofs.Common.{◌≡◌, ◌∙◌, ◌++◌, ◌∷◌, [], ap, sym, subst, is_some}
 use Rattle.jzon_base.proofs.Common.{IfSome, vec_len}
 use Rattle.jzon_base.specs.Private.KnownKeys.{Knows}
 use Rattle.jzon.specs.Private.OpenContainers.{OpenContainers, AwaitsValue}
