@@ -4,6 +4,7 @@ pub mod CutLengths
 pub mod ErrorLaw
 pub mod ErrorLengths
 pub mod EscapedSteps
+pub mod FoundViews
 pub mod IndexSteps
 pub mod LocateBytes
 pub mod LocateClear

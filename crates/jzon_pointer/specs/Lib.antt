@@ -1,6 +1,7 @@
 pub mod ErrorTexts
 pub mod Errors
 pub mod Escaped
+pub mod Found
 pub mod Locate
 pub mod Names
 pub mod Pointer

@@ -11,12 +11,14 @@ ghost use Rattle.jzon_pointer.specs.Escaped.{escaped};
 ghost use Rattle.jzon_pointer.specs.Errors.{error_text, hidden_what, is_memory, is_not_a_number, kind_of, located_error, member_of, memory, not_a_number, operation_of, place_of, pointer_of, position_of, text_of, what_of, Becomes, BecomesOrMemory, Says, SaysOrMemory, ShortLaw};
 ghost use Rattle.jzon_pointer.specs.declared.error.What.TheVariants as what;
 
+mod found;
 mod located;
 mod parts;
 mod path;
 mod words;
 
 use crate::PointerError;
+pub use found::{LONGEST, found_in, found_text, may_be_cut};
 use jzon::{LocatedError, Place, io_error};
 pub use parts::{Cause, Expected, Found, Known, Member};
 use std::alloc::{AllocError, AllocFailed, Global};

@@ -17,7 +17,7 @@ use Rattle.jzon.specs.declared.located.LocatedError.{LocatedError}
 use Rattle.jzon.specs.declared.place.Place.{Place}
 use Rattle.jzon_typed.specs.Decode.{HidesValue, HidesWhat, IsErrorIn, IsErrorOfText, IsWhatIn}
 use Rattle.jzon_typed.specs.DecodeExpected.{Refuses}
-use Rattle.jzon_typed.specs.DecodeFound.{FoundIs, shows_value}
+use Rattle.jzon_pointer.specs.Found.{FoundIs, shows_value}
 use Rattle.jzon_typed.specs.Integers.{may_be_cut_in}
 use Rattle.jzon_pointer.specs.Errors.{error_at, hidden_found, hidden_what, located_error, member_of, memory, operation_of, place_of, pointer_of, text_of, what_of, Becomes, BecomesOrMemory, Says, SaysOrMemory}
 use Rattle.jzon_pointer.specs.Escaped.{escaped}

@@ -4,7 +4,7 @@ use Rattle.jzon.specs.Lawful.{IsValue}
 use Rattle.jzon.specs.Same.{same}
 use Rattle.jzon.specs.Value.{Value, null, boolean, text, number, array, object, Values, no_values, value, ValuePairs}
 use Rattle.jzon.specs.Value.{no_pairs, pair}
-use Rattle.jzon_typed.specs.Integers.{may_be_cut}
+use Rattle.jzon_pointer.specs.Found.{may_be_cut}
 
 -- two equal values, as a program can hold them
 abbrev pub AreAlike : Value → Value → Type 0

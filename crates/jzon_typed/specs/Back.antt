@@ -29,7 +29,8 @@ use Rattle.jzon.specs.Value.{Kind, Value, null, array, boolean, kind_of, number,
 use Rattle.jzon.specs.View.{view}
 use Rattle.jzon_typed.specs.DecodeFields.{HasEntry}
 use Rattle.jzon_typed.specs.DecodeMaps.{IsArrayOf, IsOneChar, ReadsItem, TakesItem, TakesItems}
-use Rattle.jzon_typed.specs.Integers.{may_be_cut, may_be_cut_in, natural_in, whole_in, IsNatural, IsNaturalBelow, IsWhole, IsWholeOf}
+use Rattle.jzon_pointer.specs.Found.{may_be_cut}
+use Rattle.jzon_typed.specs.Integers.{may_be_cut_in, natural_in, whole_in, IsNatural, IsNaturalBelow, IsWhole, IsWholeOf}
 
 -- of what a boolean is written as, only an equal one is read
 pub back-bool : (x y : Bool) (v : Value) → v ≡ boolean x → truth_in v ≡ Some y → beq y x ≡ true

@@ -11,7 +11,7 @@ use Rattle.jzon.specs.Located.{IsErrorAt}
 use Rattle.jzon.specs.Meaning.{meaning}
 use Rattle.jzon.specs.Reading.{Reading}
 use Rattle.jzon.specs.declared.place.Place.{Place}
-use Rattle.jzon_typed.specs.DecodeFound.{FoundIs, shows_value}
+use Rattle.jzon_pointer.specs.Found.{FoundIs, shows_value}
 use Rattle.jzon_typed.specs.DecodeExpected.{Refuses}
 use Rattle.jzon_typed.specs.Integers.{may_be_cut_in}
 use Rattle.jzon_pointer.specs.Errors.{member_of, memory, operation_of, place_of, pointer_of, text_of, what_of}

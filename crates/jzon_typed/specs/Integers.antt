@@ -1,11 +1,11 @@
 -- The integer that a number is, however it is written: 100, 1e2 and 100.0 are the same, and so are 0 and -0.
-use Rattle.std.specs.Prelude.{◌≡◌, ◌<◌, ◌^◌, ◌/◌, ℕ, ℤ, pos, negsuc, Bool, true, false, not, ◌&&◌, nat_lt, Option, None, Some, option_and_then, FitsSigned}
+use Rattle.std.specs.Prelude.{◌≡◌, ◌<◌, ℕ, ℤ, pos, negsuc, Bool, true, false, Option, None, Some, option_and_then, FitsSigned}
 use Rattle.std.specs.Int.{Width}
-use Rattle.std.specs.Ordering.{int_eq}
-use Rattle.jzon.specs.Decimal.{Decimal, nan, parts, same_decimal}
+use Rattle.jzon.specs.Decimal.{Decimal, same_decimal}
 use Rattle.jzon.specs.Lawful.{InRange}
 use Rattle.jzon.specs.Readers.{exact_fixed_point_in}
 use Rattle.jzon.specs.Value.{Value, number}
+use Rattle.jzon_pointer.specs.Found.{may_be_cut}
 
 -- the integer
 abbrev pub whole_in : Value → Option ℤ
@@ -20,13 +20,7 @@ natural_of (negsuc n) = None
 abbrev pub natural_in : Value → Option ℕ
 natural_in v = option_and_then natural_of (whole_in v)
 
--- Digits of the number may have been cut where its text was read: its exponent isn't 0, and a mantissa of 64 bits has no
--- room for each further digit.
-abbrev pub may_be_cut : Decimal → Bool
-may_be_cut nan = false
-may_be_cut (parts positive m e) = not (int_eq e (pos 0)) && not (nat_lt m (2 ^ 64 / 10))
-
--- the same of a value; false if it is no number
+-- digits of the value's number may have been cut; false if it is no number
 abbrev pub may_be_cut_in : Value → Bool
 may_be_cut_in (number d) = may_be_cut d
 may_be_cut_in v = false

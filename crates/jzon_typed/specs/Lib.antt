@@ -5,7 +5,6 @@ pub mod Codec
 pub mod Decode
 pub mod DecodeExpected
 pub mod DecodeFields
-pub mod DecodeFound
 pub mod DecodeMaps
 pub mod Integers
 pub mod MapLaws

@@ -22,10 +22,10 @@ pub use alike::{ReadsAlike, law_of};
 pub use elements::element;
 pub use fields::Fields;
 use jzon::{JsonValue, Reading, parse_located};
-pub use jzon_pointer::error::{Error, Expected, Found, Known, What};
+pub use jzon_pointer::error::{Error, Expected, Found, Known, LONGEST, What};
 use std::alloc::Global;
 use std::result::Result;
-pub use wrong::{LONGEST, expected};
+pub use wrong::expected;
 
 /// Types that are read from a value. An implementation may say by the relation `gives` which results
 /// a value gives, and by `takes` which values are read, want of memory aside; one that says nothing

@@ -20,6 +20,7 @@ use super::wrong::{cut, wrong};
 use super::{Error, Expected, Fields, FromJson, element};
 use jzon::JsonValue;
 use jzon::number::Number;
+use jzon_pointer::error::may_be_cut;
 use std::alloc::Global;
 use std::collections::BTreeMap;
 use std::result::Result;
@@ -55,23 +56,18 @@ fn integer<T: Drop>(
     ensures error { IfErr result (IsErrorIn (view value.now)) }
     ensures takes { IsSome read → may_be_cut_in (view value.now) ≡ false → IsOk result }
 {
-    if read.is_some() && may_be_cut(value) {
+    if read.is_some() && is_cut(value) {
         return Err(cut(alloc, value, expected));
     }
     or_wrong(alloc, value, read, expected)
 }
 
-/// Whether digits of the number may have been cut where its text was read: the first that is cut
-/// didn't fit a `u64` after the mantissa. With the exponent 0 only a fraction can be missing, which
-/// doesn't count (docs/TOOLS.md, "Typed reading").
-fn may_be_cut(value: &JsonValue) -> bool
+/// Whether the value is a number of which digits may have been cut.
+fn is_cut(value: &JsonValue) -> bool
     ensures { result ≡ may_be_cut_in (view value.now) }
 {
     match value {
-        JsonValue::Number(number) => {
-            let (_positive, mantissa, exponent) = number.as_parts();
-            exponent != 0 && mantissa >= u64::MAX / 10
-        }
+        JsonValue::Number(number) => may_be_cut(*number),
         _ => false,
     }
 }

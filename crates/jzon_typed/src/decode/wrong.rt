@@ -1,24 +1,19 @@
 //! The errors of a value that isn't what is expected.
 
-ghost use Rattle.std.specs.Prelude.{◌≡◌, None, Some, IfOk, chars, false, length, map, true};
+ghost use Rattle.std.specs.Prelude.{◌≡◌, None, false, map, true};
 ghost use Rattle.std.specs.Option.{is_some};
 ghost use Rattle.jzon.specs.PairList.{find};
-ghost use Rattle.jzon.specs.Readers.{entries, is_object, text_in};
+ghost use Rattle.jzon.specs.Readers.{entries, is_object};
 ghost use Rattle.jzon.specs.Value.{Value};
 ghost use Rattle.jzon.specs.View.{view};
 ghost use Rattle.jzon_typed.specs.Decode.{IsErrorIn};
 ghost use Rattle.jzon_typed.specs.DecodeExpected.{Refuses};
-ghost use Rattle.jzon_typed.specs.DecodeFound.{FoundIs};
 ghost use Rattle.jzon_typed.specs.Integers.{may_be_cut_in};
 ghost use Rattle.jzon_pointer.specs.Names.{is_among};
 
 use jzon::JsonValue;
-use jzon_pointer::error::{Error, Expected, Found, Known, What};
-use std::alloc::{AllocError, Global};
-use std::result::Result;
-
-/// How many characters of a string an error repeats at most.
-pub const LONGEST: usize = 40;
+use jzon_pointer::error::{Error, Expected, Known, What, found_in};
+use std::alloc::Global;
 
 /// The error of a value that a caller's own test refuses. The words say what it expects.
 ///
@@ -37,7 +32,7 @@ pub fn expected(alloc: Global, value: &JsonValue, words: &'static str) -> Error
 pub(super) fn wrong(alloc: Global, value: &JsonValue, expected: Expected) -> Error
     ensures { Refuses expected (view value.now) → IsErrorIn (view value.now) result }
 {
-    match describe(alloc, value) {
+    match found_in(alloc, value) {
         Ok(found) => Error::new(alloc, What::Wrong { expected, found }),
         Err(_refused) => Error::MEMORY,
     }
@@ -48,7 +43,7 @@ pub(super) fn wrong(alloc: Global, value: &JsonValue, expected: Expected) -> Err
 pub(super) fn cut(alloc: Global, value: &JsonValue, expected: Expected) -> Error
     ensures { may_be_cut_in (view value.now) ≡ true → IsErrorIn (view value.now) result }
 {
-    match describe(alloc, value) {
+    match found_in(alloc, value) {
         Ok(found) => Error::new(alloc, What::Cut { expected, found }),
         Err(_refused) => Error::MEMORY,
     }
@@ -69,31 +64,4 @@ pub(super) fn unknown(alloc: Global, key: &str, known: Known) -> Error
         → is_among (map (λ n. n.now) known.now) key.now ≡ false → IsErrorIn v result }
 {
     Error::new(alloc, What::Unknown(known)).below_key(alloc, key)
-}
-
-/// What a value is.
-#[tactic(auto, using(crate::proofs::DecodeViews::describing))]
-fn describe(alloc: Global, value: &JsonValue) -> Result<Found, AllocError>
-    ensures { IfOk result (λ f. FoundIs f (view value.now)) }
-{
-    match value {
-        JsonValue::Null => Ok(Found::Null),
-        JsonValue::Boolean(truth) => Ok(Found::Boolean(*truth)),
-        JsonValue::Number(number) => Ok(Found::Number(*number)),
-        JsonValue::Short(text) => describe_string(alloc, text.as_str()),
-        JsonValue::String(text) => describe_string(alloc, text.as_str()),
-        JsonValue::Array(items) => Ok(Found::Array(items.len())),
-        JsonValue::Object(object) => Ok(Found::Object(object.len())),
-    }
-}
-
-/// A copy of the string, or how long it is.
-fn describe_string(alloc: Global, text: &str) -> Result<Found, AllocError>
-    ensures { IfOk result (λ f. (v : Value) → text_in v ≡ Some text.now → FoundIs f v) }
-{
-    let count = text.chars().count();
-    if count > LONGEST {
-        return Ok(Found::LongString(count));
-    }
-    Ok(Found::String(String::from_str(alloc, text)?))
 }

@@ -1,7 +1,7 @@
 use Rattle.std.proofs.Common.{◌≤◌, ℕ, List, Some, chars, length, sym, ap, ◌∙◌, subst, arith}
 use Rattle.std.proofs.lemmas.Iterator.{YieldsList-from_chars}
 use Rattle.std.proofs.lemmas.Iterator.Consumers.{count_from_yields_List}
-use Rattle.jzon_typed.proofs.decode.wrong.describe_string.Goals as goal
+use Rattle.jzon_pointer.proofs.error.found.found_text.Goals as goal
 
 pub returns-then-count-gt-LONGEST : goal.returns-then-count-gt-LONGEST
 returns-then-count-gt-LONGEST c = λ v is.

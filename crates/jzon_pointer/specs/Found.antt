@@ -1,6 +1,7 @@
--- What an error of a reading says is there. Of a string it repeats at most 40 characters.
-use Rattle.std.specs.Prelude.{◌≡◌, ◌<◌, ◌≤◌, ℕ, List, Bool, Some, MatchOption, chars, length, string_bytes, false, true}
-use Rattle.jzon.specs.Decimal.{Decimal}
+-- What an error says of a value that isn't what is expected. Of a string it repeats at most 40 characters.
+use Rattle.std.specs.Prelude.{◌≡◌, ◌<◌, ◌≤◌, ◌^◌, ◌/◌, ℕ, pos, List, Bool, Some, MatchOption, chars, length, string_bytes, false, true, not, ◌&&◌, nat_lt}
+use Rattle.std.specs.Ordering.{int_eq}
+use Rattle.jzon.specs.Decimal.{Decimal, nan, parts}
 use Rattle.jzon.specs.Readers.{count, is_array, is_object, text_in}
 use Rattle.jzon.specs.Value.{Value, null, boolean, number}
 use Rattle.jzon_pointer.specs.declared.error.parts.Found.{Found}
@@ -33,3 +34,9 @@ shows_value (Number n) = true
 shows_value (String s) = true
 shows_value (LongString n) = true
 shows_value _ = false
+
+-- Digits of the number may have been cut where its text was read: its exponent isn't 0, and a mantissa of 64 bits has no
+-- room for each further digit.
+abbrev pub may_be_cut : Decimal → Bool
+may_be_cut nan = false
+may_be_cut (parts positive m e) = not (int_eq e (pos 0)) && not (nat_lt m (2 ^ 64 / 10))
