@@ -6,8 +6,8 @@ use Rattle.std.proofs.lemmas.Bool.Decides.{nat_tests}
 use Rattle.std.proofs.lemmas.List.{length-take}
 use Rattle.std.proofs.Math.Nat.{mul-div-le, mul-le-mul_left, mul-suc}
 use Rattle.std.specs.List.{list_all}
-use Rattle.jzon_pointer.specs.Shown.{cut_text, fitting, is_seen, more_text, name_shown, names_text, others_text, piece, pieces}
-use Rattle.jzon_pointer.specs.Shown.{pointer_shown, shown_char, token_shown, widest, words_shown}
+use Rattle.jzon_pointer.specs.Shown.{cut_text, fitted, fitting, is_seen, more_text, name_shown, names_text, others_text, piece, pieces}
+use Rattle.jzon_pointer.specs.Shown.{pointer_shown, shown_char, shown_text, token_shown, widest, words_shown}
 
 -- ---- the pieces of a text
 
@@ -115,24 +115,37 @@ fits n bytes = mul-div-le n (widest (chars bytes))
 none : (m : ℕ) → m * 0 ≤ 0
 none m = omega arith
 
+few : (k n : ℕ) → nat_le n k ≡ true → n ≤ k
+few k n h = grind (arith, nat_tests)
+
+-- what takes at most n bytes, or else k, takes at most k
+one_of : (b : Bool) (s t : List ℕ) (n k : ℕ) → n ≤ k → (b ≡ true → length s ≤ n) → length t ≤ k
+    → length (if b then s else t) ≤ k
+one_of true s t n k less h g = let within = h refl in omega (arith, within)
+one_of false s t n k less h g = g
+
+fitted-short : (n front back k : ℕ) (t : List ℕ) → n ≤ k → length (cut_text front back t) ≤ k
+    → length (fitted n front back t) ≤ k
+fitted-short n front back k t less h =
+    one_of (nat_le (length (shown_text t)) n) (shown_text t) (cut_text front back t) n k less
+    (few n (length (shown_text t))) h
+
 pub pointer-short : (p : List ℕ) → length (pointer_shown p) ≤ 202
-pointer-short p = cut-short (fitting 100 p) (fitting 100 p) 100 100 p (fits 100 p) (fits 100 p)
-
-few : (n : ℕ) → nat_le n 200 ≡ true → n ≤ 200
-few n h = grind (arith, nat_tests)
-
-words_by : (b : Bool) (t : List ℕ) → (b ≡ true → length t ≤ 200)
-    → length (if b then t else cut_text (fitting 200 t) 0 t) ≤ 202
-words_by true t h = let within = h refl in omega (arith, within)
-words_by false t h = cut-short (fitting 200 t) 0 200 0 t (fits 200 t) (none (widest (chars t)))
+pointer-short p =
+    fitted-short 200 (fitting 100 p) (fitting 100 p) 202 p (omega arith)
+    (cut-short (fitting 100 p) (fitting 100 p) 100 100 p (fits 100 p) (fits 100 p))
 
 pub words-short : (t : List ℕ) → length (words_shown t) ≤ 202
 words-short t =
-    words_by (nat_le (length t) 200 && list_all is_seen (chars t)) t
-    (λ h. few (length t) (and_parts (nat_le (length t) 200) (list_all is_seen (chars t)) h).0)
+    one_of (nat_le (length t) 200 && list_all is_seen (chars t)) t (fitted 200 (fitting 200 t) 0 t) 200 202 (omega arith)
+    (λ h. few 200 (length t) (and_parts (nat_le (length t) 200) (list_all is_seen (chars t)) h).0)
+    (fitted-short 200 (fitting 200 t) 0 202 t (omega arith)
+    (cut-short (fitting 200 t) 0 200 0 t (fits 200 t) (none (widest (chars t)))))
 
 pub name-short : (t : List ℕ) → length (name_shown t) ≤ 42
-name-short t = cut-short (fitting 40 t) 0 40 0 t (fits 40 t) (none (widest (chars t)))
+name-short t =
+    fitted-short 40 (fitting 40 t) 0 42 t (omega arith)
+    (cut-short (fitting 40 t) 0 40 0 t (fits 40 t) (none (widest (chars t))))
 
 pub token-short : (t : List ℕ) → length (token_shown t) ≤ 242
 token-short t =

@@ -27,19 +27,22 @@ byte_text b = digit_char (b / 16) ∷ digit_char (b % 16) ∷ []
 abbrev pub escape_text : ℕ → List ℕ
 escape_text c = codes "\\u" ++ (byte_text (c / 256) ++ byte_text (c % 256))
 
--- whether it is a tag, a variation selector, or one of U+E0000 to U+E0FFF that is unassigned and isn't seen either
-abbrev pub is_tag : ℕ → Bool
-is_tag c = nat_le 917504 c && nat_le c 921599
+-- Whether it is a character above U+FFFF that isn't seen: a format control of hieroglyphs, of shorthand or of music, a
+-- tag, a variation selector, or one of U+E0000 to U+E0FFF that is unassigned.
+abbrev pub is_hidden_pair : ℕ → Bool
+is_hidden_pair c =
+    (nat_le 78896 c && nat_le c 78911) || (nat_le 113824 c && nat_le c 113827) || (nat_le 119155 c && nat_le c 119162)
+    || (nat_le 917504 c && nat_le c 921599)
 
--- the escapes of a tag's two surrogates
-abbrev pub tag_text : ℕ → List ℕ
-tag_text c = escape_text (56128 + (c - 917504) / 1024) ++ escape_text (56320 + c % 1024)
+-- the escapes of such a character's two surrogates
+abbrev pub pair_text : ℕ → List ℕ
+pair_text c = escape_text (55296 + (c - 65536) / 1024) ++ escape_text (56320 + c % 1024)
 
 -- a character in a string of JSON; a hidden one is escaped
 abbrev pub shown_char : ℕ → List ℕ
 shown_char c = if c == 34 then codes "\\\"" else (if c == 92 then codes "\\\\" else (if c == 10 then codes "\\n" else
     (if c == 13 then codes "\\r" else (if c == 9 then codes "\\t" else
-    (if is_hidden c then escape_text c else (if is_tag c then tag_text c else encode_utf8 c))))))
+    (if is_hidden c then escape_text c else (if is_hidden_pair c then pair_text c else encode_utf8 c))))))
 
 -- a text with such escapes
 abbrev pub shown_text : List ℕ → List ℕ
@@ -67,26 +70,32 @@ widest (c ∷ cs) = max (length (shown_char c)) (widest cs)
 abbrev pub fitting : ℕ → List ℕ → ℕ
 fitting n bytes = n / widest (chars bytes)
 
+-- a text, or, if it takes more than n bytes, its first `front` and its last `back` characters, and dots
+abbrev pub fitted : ℕ → ℕ → ℕ → List ℕ → List ℕ
+fitted n front back bytes =
+    if nat_le (length (shown_text bytes)) n then shown_text bytes else cut_text front back bytes
+
 -- a token or a key: 40 characters and 240 bytes at most, and dots
 abbrev pub token_shown : List ℕ → List ℕ
 token_shown bytes = cut_text (min (fitting 240 bytes) 40) 0 bytes
 
 -- whether it is no hidden character
 abbrev pub is_seen : ℕ → Bool
-is_seen c = not (is_hidden c) && not (is_tag c)
+is_seen c = not (is_hidden c) && not (is_hidden_pair c)
 
--- words of a program: as they are, or, if they are longer or one of them is hidden, 200 bytes at most, and dots
+-- words of a program: as they are, or, if they take more than 200 bytes or a character is hidden, escaped: 200 bytes at
+-- most, and dots
 abbrev pub words_shown : List ℕ → List ℕ
 words_shown bytes = if nat_le (length bytes) 200 && list_all is_seen (chars bytes) then bytes
-    else cut_text (fitting 200 bytes) 0 bytes
+    else fitted 200 (fitting 200 bytes) 0 bytes
 
--- a pointer: of a long one at most 100 bytes of its beginning, and of its end
+-- a pointer: of one that takes more than 200 bytes at most 100 of its beginning, and of its end
 abbrev pub pointer_shown : List ℕ → List ℕ
-pointer_shown bytes = cut_text (fitting 100 bytes) (fitting 100 bytes) bytes
+pointer_shown bytes = fitted 200 (fitting 100 bytes) (fitting 100 bytes) bytes
 
 -- a name that a program knows: 40 bytes at most, and dots
 abbrev pub name_shown : List ℕ → List ℕ
-name_shown bytes = cut_text (fitting 40 bytes) 0 bytes
+name_shown bytes = fitted 40 (fitting 40 bytes) 0 bytes
 
 -- the pointer of a value, and a colon; nothing of the whole value
 abbrev pub place_text : List ℕ → List ℕ

@@ -1,11 +1,11 @@
 //! Texts of an error, for a person: one line, whatever a stranger sent, and no longer than a few
 //! hundred characters of each text.
 
-ghost use Rattle.std.specs.Prelude.{◌≡◌, ◌<◌, ◌≤◌, Some, chars, false, length, map, nat_le, true, ◌&&◌};
+ghost use Rattle.std.specs.Prelude.{◌≡◌, ◌<◌, ◌≤◌, ◌-◌, ◌^◌, Some, chars, false, length, map, min, nat_le, true, ◌&&◌};
 ghost use Rattle.std.specs.Char.{digit_char};
 ghost use Rattle.std.specs.Fmt.{WritesOnOk};
 ghost use Rattle.std.specs.List.{list_all};
-ghost use Rattle.jzon_pointer.specs.Shown.{byte_text, cut_text, escape_text, is_hidden, is_seen, is_tag, name_shown, names_text, others_text, piece, place_text, pointer_shown, shown_char, shown_text, tag_text, text_error_text, token_shown, widest, words_shown};
+ghost use Rattle.jzon_pointer.specs.Shown.{byte_text, cut_text, escape_text, fitted, is_hidden, is_hidden_pair, is_seen, name_shown, names_text, others_text, pair_text, piece, place_text, pointer_shown, shown_char, shown_text, text_error_text, token_shown, widest, words_shown};
 
 use jzon::{Error, LocatedError};
 use std::fmt;
@@ -53,7 +53,7 @@ impl fmt::Display for ShownWords<'_> {
         if is_line(self.0) {
             return f.write_str(self.0);
         }
-        show_cut(f, self.0, 200 / widest(self.0), 0)
+        show_fitting(f, self.0, 200, 200 / widest(self.0), 0)
     }
 }
 
@@ -74,7 +74,7 @@ fn are_seen(text: &str) -> bool
 fn is_seen(ch: char) -> bool
     ensures { result ≡ is_seen ch }
 {
-    !is_hidden(ch) && !is_tag(ch)
+    !is_hidden(ch) && !is_hidden_pair(ch)
 }
 
 /// A pointer, as `ShownPointer` shows it.
@@ -82,7 +82,7 @@ pub fn show_pointer<W: fmt::Write>(f: &mut fmt::Formatter<W>, pointer: &str) -> 
     ensures { WritesOnOk W.write_str_gives f.old result (pointer_shown pointer.now) f.new }
 {
     let each = 100 / widest(pointer);
-    show_cut(f, pointer, each, each)
+    show_fitting(f, pointer, 200, each, each)
 }
 
 /// How many bytes the widest character of a text takes where it is shown: at least 1.
@@ -104,9 +104,39 @@ fn width(ch: char) -> usize
     match ch {
         '"' | '\\' | '\n' | '\r' | '\t' => 2,
         _ if is_hidden(ch) => 6,
-        _ if is_tag(ch) => 12,
+        _ if is_hidden_pair(ch) => 12,
         _ => ch.len_utf8(),
     }
+}
+
+/// A text, escaped, or, if it takes more than `most` bytes so, its first `front` and its last `back`
+/// characters, with dots between them.
+fn show_fitting<W: fmt::Write>(
+    f: &mut fmt::Formatter<W>,
+    text: &str,
+    most: usize,
+    front: usize,
+    back: usize,
+) -> fmt::Result
+    requires most { most < 1000 }
+    requires front { front < 1000 }
+    ensures { WritesOnOk W.write_str_gives f.old result (fitted most front back text.now) f.new }
+{
+    if shown_len(text) <= most {
+        return show_text(f, text);
+    }
+    show_cut(f, text, front, back)
+}
+
+/// How many bytes a text takes where it is shown, or the most that a `usize` counts.
+fn shown_len(text: &str) -> usize
+    ensures { result ≡ min (length (shown_text text.now)) (2 ^ 64 - 1) }
+{
+    let mut bytes = 0usize;
+    for ch in text.chars() {
+        bytes = bytes.saturating_add(width(ch));
+    }
+    bytes
 }
 
 /// The first `front` and the last `back` characters of a text, escaped, with dots between them if
@@ -199,7 +229,7 @@ pub(crate) fn show_char<W: fmt::Write>(f: &mut fmt::Formatter<W>, ch: char) -> f
         '\r' => f.write_str("\\r"),
         '\t' => f.write_str("\\t"),
         _ if is_hidden(ch) => show_escape(f, u32::from(ch)),
-        _ if is_tag(ch) => show_tag(f, u32::from(ch)),
+        _ if is_hidden_pair(ch) => show_pair(f, u32::from(ch)),
         _ => f.write_char(ch),
     }
 }
@@ -219,24 +249,30 @@ pub fn is_hidden(ch: char) -> bool
     }
 }
 
-/// Whether a character is a tag, a variation selector, or one of U+E0000 to U+E0FFF that is unassigned
-/// and isn't seen either.
-fn is_tag(ch: char) -> bool
-    ensures tag { result ≡ is_tag ch }
-    ensures above { result ≡ true → 917504 ≤ ch }
-    ensures below { result ≡ true → ch < 921600 }
+/// Whether a character above U+FFFF isn't seen: a format control of hieroglyphs, of shorthand or of
+/// music, a tag, a variation selector, or one of U+E0000 to U+E0FFF that is unassigned.
+fn is_hidden_pair(ch: char) -> bool
+    ensures hidden { result ≡ is_hidden_pair ch }
+    ensures above { result ≡ true → 65536 ≤ ch }
+    ensures below { result ≡ true → ch < 1114112 }
 {
-    matches!(ch, '\u{e0000}'..='\u{e0fff}')
+    matches!(
+        ch,
+        '\u{13430}'..='\u{1343f}'
+            | '\u{1bca0}'..='\u{1bca3}'
+            | '\u{1d173}'..='\u{1d17a}'
+            | '\u{e0000}'..='\u{e0fff}'
+    )
 }
 
-/// The two surrogates of a tag: each first one is that of 1,024 characters, from U+E0000 (917,504) on,
-/// and the second counts them.
-fn show_tag<W: fmt::Write>(f: &mut fmt::Formatter<W>, code: u32) -> fmt::Result
-    requires above { 917504 ≤ code }
-    requires below { code < 921600 }
-    ensures { WritesOnOk W.write_str_gives f.old result (tag_text code) f.new }
+/// The two surrogates of a character above U+FFFF: each first one is that of 1,024 characters, from
+/// U+10000 on, and the second counts them.
+fn show_pair<W: fmt::Write>(f: &mut fmt::Formatter<W>, code: u32) -> fmt::Result
+    requires above { 65536 ≤ code }
+    requires below { code < 1114112 }
+    ensures { WritesOnOk W.write_str_gives f.old result (pair_text code) f.new }
 {
-    show_escape(f, 0xdb40 + (code - 917_504) / 1024)?;
+    show_escape(f, 0xd800 + (code - 0x10000) / 1024)?;
     show_escape(f, 0xdc00 + code % 1024)
 }
 
@@ -301,6 +337,6 @@ impl fmt::Display for ShownName<'_> {
     ghost output = { λ t. Some (name_shown t.0.now) };
 
     fn fmt<W: fmt::Write>(&self, f: &mut fmt::Formatter<W>) -> fmt::Result {
-        show_cut(f, self.0, 40 / widest(self.0), 0)
+        show_fitting(f, self.0, 40, 40 / widest(self.0), 0)
     }
 }
