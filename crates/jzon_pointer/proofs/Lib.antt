@@ -22,6 +22,7 @@ pub mod LocateWalks
 pub mod LocateWhole
 pub mod NameSteps
 pub mod PlaceSteps
+pub mod PlacedSteps
 pub mod PointerSteps
 pub mod ShownSteps
 pub mod TokenSteps

@@ -4,6 +4,7 @@ pub mod Escaped
 pub mod Found
 pub mod Locate
 pub mod Names
+pub mod Placed
 pub mod Pointer
 pub mod Shown
 -- private

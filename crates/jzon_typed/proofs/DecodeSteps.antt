@@ -23,6 +23,7 @@ use Rattle.jzon_pointer.specs.Errors.{error_at, hidden_found, hidden_what, locat
 use Rattle.jzon_pointer.specs.Escaped.{escaped}
 use Rattle.jzon_pointer.specs.Locate.{IsPlaceIn}
 use Rattle.jzon_pointer.specs.Names.{is_among}
+use Rattle.jzon_pointer.specs.Placed.{IsPlacedBy}
 use Rattle.jzon_pointer.specs.Pointer.{child_of}
 use Rattle.jzon_pointer.specs.declared.error.Error.{Error}
 use Rattle.jzon_pointer.specs.declared.error.What.{What}
@@ -273,11 +274,12 @@ text-error r bytes l e h is = subst (IsErrorOfText r bytes) (sym is) (text_by r 
 pub placed-error : (r : Reading) (bytes : List ℕ) (v : JsonValue) (e f : Error) → IsMeaningOf r (chars bytes) v
     → IsErrorIn (view v) e
     → Becomes e f (what_of e) (pointer_of e) (operation_of e) (member_of e) (place_of f)
-    → MatchOption (what_of e) ⊤ (λ _. IfSome (place_of f) (IsPlaceIn bytes)) → IsErrorOfText r bytes f
-placed-error r bytes v e f means (inl is) b there =
+    → MatchOption (what_of e) ⊤ (λ _. IfSome (place_of f) (IsPlaceIn bytes)) → IsPlacedBy r bytes f
+    → IsErrorOfText r bytes f
+placed-error r bytes v e f means (inl is) b there named =
     let same = by-none (what_of e) (f ≡ e) _ (ap what_of is) b ∙ is in
     subst (IsErrorOfText r bytes) (sym same) (inl refl)
-placed-error r bytes v e f (d, parses, seen) (inr (w, is, h, op, nm, np)) b there =
+placed-error r bytes v e f (d, parses, seen) (inr (w, is, h, op, nm, np)) b there named =
     let says = by-some (what_of e) (f ≡ e) (λ _. Says f (what_of e) (pointer_of e) (operation_of e) (member_of e)
     (place_of f)) w is b in
     let in_value = subst (λ x. IsWhatIn x w (pointer_of f)) seen
@@ -285,6 +287,7 @@ placed-error r bytes v e f (d, parses, seen) (inr (w, is, h, op, nm, np)) b ther
     none-by (text_of f) _ _ says.text (inr (
       (d, parses, (w, says.what ∙ is, in_value, says.operation ∙ op, says.member ∙ nm, refl)),
       by-some (what_of e) ⊤ (λ _. IfSome (place_of f) (IsPlaceIn bytes)) w is there,
+      named,
     ))
 
 pub ruleset of_text = (text-error, placed-error)

@@ -17,6 +17,7 @@ use Rattle.jzon_typed.specs.Integers.{may_be_cut_in}
 use Rattle.jzon_pointer.specs.Errors.{member_of, memory, operation_of, place_of, pointer_of, text_of, what_of}
 use Rattle.jzon_pointer.specs.Escaped.{escaped}
 use Rattle.jzon_pointer.specs.Locate.{IsPlaceIn}
+use Rattle.jzon_pointer.specs.Placed.{IsPlacedBy}
 use Rattle.jzon_pointer.specs.Pointer.{value_at}
 use Rattle.jzon_pointer.specs.Names.{is_among}
 use Rattle.jzon_pointer.specs.declared.error.Error.{Error}
@@ -51,10 +52,11 @@ abbrev pub MeansSome : Reading → List ℕ → (Value → Type 0) → Type 0
 MeansSome r t P = (d : Document) × Parses r t d × P (meaning d.node)
 
 -- an error of a reading of the text with these bytes: that of its first fault and where, or one in the value that it
--- means, and perhaps where
+-- means, and perhaps where: at what the error's pointer names in the text
 abbrev pub IsErrorOfText : Reading → List ℕ → Error → Type 0
 IsErrorOfText r bytes e = MatchOption (text_of e)
-    ((e ≡ memory) ⊎ (MeansSome r (chars bytes) (λ v. SaysOf v e (place_of e)) × IfSome (place_of e) (IsPlaceIn bytes)))
+    ((e ≡ memory) ⊎ (MeansSome r (chars bytes) (λ v. SaysOf v e (place_of e)) × IfSome (place_of e) (IsPlaceIn bytes)
+    × IsPlacedBy r bytes e))
     (λ t. (p : Place) × (place_of e ≡ Some p) × IsErrorAt r bytes t p)
 
 -- the error shows no value

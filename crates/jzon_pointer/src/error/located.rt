@@ -1,8 +1,10 @@
 //! An error with its place in the text of which the value was read.
 
-ghost use Rattle.std.specs.Prelude.{⊤, IfSome, MatchOption};
+ghost use Rattle.std.specs.Prelude.{◌≡◌, ◌∷◌, ◌++◌, ⊤, ℕ, IfOk, IfSome, List, MatchOption, Some};
 ghost use Rattle.jzon_pointer.specs.Errors.{member_of, operation_of, place_of, pointer_of, what_of, Becomes};
+ghost use Rattle.jzon_pointer.specs.Escaped.{escaped};
 ghost use Rattle.jzon_pointer.specs.Locate.{IsPlaceIn};
+ghost use Rattle.jzon_pointer.specs.Placed.{IsPlaceBy, IsPlacedBy};
 
 use super::{Error, What};
 use crate::locate;
@@ -17,11 +19,13 @@ impl Error {
     /// ```rust
     /// let placed = error.in_text(rt.alloc(), REPEATED, &Reading::USUAL);
     /// ```
+    #[tactic(auto, using(crate::proofs::PlacedSteps::placing))]
     pub fn in_text(self, alloc: Global, text: &str, reading: &Reading) -> Error
         ensures error { Becomes self result (what_of self) (pointer_of self) (operation_of self)
             (member_of self) (place_of result) }
         ensures place { MatchOption (what_of self) ⊤ (λ _. IfSome (place_of result)
             (IsPlaceIn text.now)) }
+        ensures named { IsPlacedBy reading.now text.now result }
     {
         let place = place_in(alloc, &self, text, reading);
         self.at_place(place)
@@ -29,23 +33,41 @@ impl Error {
 }
 
 /// Where the value or the key is that the error's pointer names.
+#[tactic(auto, using(crate::proofs::PlacedSteps::placing))]
 fn place_in(alloc: Global, error: &Error, text: &str, reading: &Reading) -> Option<Place>
-    ensures { IfSome result (IsPlaceIn text.now) }
+    ensures place { IfSome result (IsPlaceIn text.now) }
+    ensures named { IsPlaceBy reading.now text.now (what_of error.now) (pointer_of error.now) result }
 {
-    let pointer = error.pointer();
-    let found = match error.what()? {
-        What::Missing(_) => locate::value_in(alloc, text, parent(pointer), reading),
-        What::Unknown(_) => locate::key_in(alloc, text, pointer, reading),
-        _ => locate::value_in(alloc, text, pointer, reading),
-    };
-    match found {
+    let what = error.what()?;
+    match place_at(alloc, what, error.pointer(), text, reading) {
         Ok(place) => place,
         Err(_refused) => None,
     }
 }
 
+/// Where it is of what went wrong at a pointer.
+#[tactic(auto, using(crate::proofs::PlacedSteps::placing))]
+fn place_at(
+    alloc: Global,
+    what: &What,
+    pointer: &str,
+    text: &str,
+    reading: &Reading,
+) -> jzon::Result<Option<Place>>
+    ensures place { IfOk result (λ found. IfSome found (IsPlaceIn text.now)) }
+    ensures named { IfOk result (IsPlaceBy reading.now text.now (Some what.now) pointer.now) }
+{
+    match what {
+        What::Missing(_) => locate::value_in(alloc, text, parent(pointer), reading),
+        What::Unknown(_) => locate::key_in(alloc, text, pointer, reading),
+        _ => locate::value_in(alloc, text, pointer, reading),
+    }
+}
+
 /// The pointer without its last token.
-fn parent(pointer: &str) -> &str {
+fn parent(pointer: &str) -> &str
+    ensures { (q k : List ℕ) → pointer.now ≡ q ++ 47 ∷ escaped k → result.now ≡ q }
+{
     match pointer.rsplit_once('/') {
         Some((object, _key)) => object,
         None => pointer,
