@@ -1,5 +1,5 @@
--- How a type is written and read back, and a struct by its fields: what an `impl` of `ReadsBack` for one's own struct
--- is made of. (The laws are proofs; they are here because the laws of `ReadsBack` cite them.)
+-- How a type is written and read back, and a struct by its fields: what an `impl` of `ReadsBack` or `ReadsAlike` for
+-- one's own struct is made of. (The laws are proofs; they are here because those of the two traits cite them.)
 use Rattle.std.specs.Prelude.{refl, List, [], ◌∷◌, ◌≡◌, ◌<◌, ◌^◌, ℕ, ℤ, pos, Bool, true, ◌&&◌, Option, Some, IsSome, MatchOption, ◌⊎◌, FitsSigned, nat_eq, encode_utf8, string_bytes}
 use Rattle.std.specs.BTreeMap.{BTreeMap, IsOrdered, get_by_text}
 use Rattle.std.specs.Bool.{beq}
@@ -14,6 +14,7 @@ use Rattle.std.specs.declared.alloc.Global.{Global}
 use Rattle.std.specs.declared.boxed.Box.{Box}
 use Rattle.std.specs.declared.string.String.{String}
 use Rattle.std.specs.declared.vec.Vec.{Vec}
+use Rattle.std.proofs.Common.{sym, ap, ◌∙◌}
 use Rattle.std.proofs.lemmas.Bool.{and_from}
 use Rattle.std.proofs.lemmas.Option.{none-some}
 use Rattle.jzon.specs.Decimal.{Decimal, integer_parts, same_decimal}
@@ -23,14 +24,17 @@ use Rattle.jzon.specs.Readers.{is_array, is_object, items, number_in, text_in, t
 use Rattle.jzon.specs.Same.{same}
 use Rattle.jzon.specs.Value.{Value, null, boolean, kind_of, number, text, array, object, values_of}
 use Rattle.jzon.specs.View.{view}
+use Rattle.jzon_typed.specs.Alike.{AlikeBy, TakenAlike}
+use Rattle.jzon_typed.specs.AlikeLaws.{alike-bool, alike-char, alike-int, alike-list, alike-nat, alike-number, alike-option, alike-pair, alike-text, alike-triple, alike-value, outlined}
+use Rattle.jzon_typed.specs.AlikeLaws.{taken-alike-bool, taken-alike-char, taken-alike-int, taken-alike-list, taken-alike-nat, taken-alike-number, taken-alike-option, taken-alike-pair, taken-alike-text, taken-alike-triple}
 use Rattle.jzon_typed.specs.Back.{back-bool, back-char, back-int, back-list, back-nat, back-number, back-option, back-pair, back-text, back-triple, back-value, entry-back}
 use Rattle.jzon_typed.specs.Back.{taken-bool, taken-char, taken-int, taken-list, taken-nat, taken-number, taken-option, taken-pair, taken-text, taken-triple, entry-taken}
 use Rattle.jzon_typed.specs.DecodeFields.{HasEntry}
 use Rattle.jzon_typed.specs.DecodeMaps.{IsArrayOf, IsOneChar, ReadsEntries, ReadsItem, TakesEntries, TakesItem, TakesItems}
-use Rattle.jzon_typed.specs.MapLaws.{back-map, taken-map}
-use Rattle.jzon_typed.specs.Integers.{IsNatural, IsNaturalBelow, IsWhole, IsWholeOf}
+use Rattle.jzon_typed.specs.MapLaws.{alike-map, back-map, entry-alike, entry-taken-alike, taken-alike-map, taken-map}
+use Rattle.jzon_typed.specs.Integers.{EqualIntegers, IsNatural, IsNaturalBelow, IsWhole, IsWholeOf}
 
--- the members of `ToJson` and `FromJson` of a type, its equality, and the laws of `ReadsBack`
+-- the members of `ToJson` and `FromJson` of a type, its equality, and the laws of `ReadsBack` and `ReadsAlike`
 pub record Codec (X : Type 0) : Type 1 where
   pub shows : X → Value → Type 0
   pub gives : Value → X → Type 0
@@ -38,6 +42,8 @@ pub record Codec (X : Type 0) : Type 1 where
   pub equal : X → X → Bool
   pub back : (x y : X) (v : Value) → shows x v → gives v y → equal y x ≡ true
   pub taken : (x : X) (v : Value) → shows x v → takes v
+  pub alike : EqualIntegers → AlikeBy gives equal
+  pub taken_alike : EqualIntegers → TakenAlike takes
 
 -- ---- the types of the crate
 
@@ -50,6 +56,8 @@ natural b = record {
   equal = nat_eq;
   back = back-nat b;
   taken = taken-nat b;
+  alike = alike-nat;
+  taken_alike = taken-alike-nat b;
 }
 
 -- of the integers of a width
@@ -61,6 +69,8 @@ whole w = record {
   equal = int_eq;
   back = back-int w;
   taken = taken-int w;
+  alike = alike-int;
+  taken_alike = taken-alike-int w;
 }
 
 -- of `u8`
@@ -104,6 +114,8 @@ bool = record {
   equal = beq;
   back = back-bool;
   taken = taken-bool;
+  alike = λ _. alike-bool;
+  taken_alike = λ _. taken-alike-bool;
 }
 
 -- of `Number`
@@ -115,6 +127,8 @@ decimal = record {
   equal = same_decimal;
   back = back-number;
   taken = taken-number;
+  alike = λ _. alike-number;
+  taken_alike = λ _. taken-alike-number;
 }
 
 -- of `JsonValue`
@@ -126,6 +140,8 @@ json_value = record {
   equal = λ w x. same (view w) (view x);
   back = back-value;
   taken = λ _ _ _. tt;
+  alike = λ _. alike-value;
+  taken_alike = λ _ _ _ _ _ _. tt;
 }
 
 -- of `String`
@@ -137,6 +153,8 @@ string = record {
   equal = string_eq;
   back = back-text;
   taken = taken-text;
+  alike = λ _. alike-text;
+  taken_alike = λ _. taken-alike-text;
 }
 
 -- of `char`
@@ -148,6 +166,8 @@ char = record {
   equal = nat_eq;
   back = back-char;
   taken = taken-char;
+  alike = λ _. alike-char;
+  taken_alike = λ _. taken-alike-char;
 }
 
 -- of `Vec<T>`
@@ -159,6 +179,8 @@ vec c = record {
   equal = λ xs ys. pointwise c.equal xs.items ys.items;
   back = λ x y. back-list c.shows c.gives c.equal c.back x.items y.items;
   taken = λ x. taken-list c.shows c.takes c.taken x.items;
+  alike = λ law x y. alike-list c.gives c.equal (c.alike law) x.items y.items;
+  taken_alike = λ law. taken-alike-list c.takes (c.taken_alike law);
 }
 
 -- of `Box<T>`
@@ -170,6 +192,8 @@ boxed c = record {
   equal = λ b d. c.equal b.value d.value;
   back = λ x y. c.back x.value y.value;
   taken = λ x. c.taken x.value;
+  alike = λ law x y. c.alike law x.value y.value;
+  taken_alike = c.taken_alike;
 }
 
 -- of `Option<T>`, if no value of its type is written as null
@@ -181,6 +205,8 @@ option c never = record {
   equal = option_eq c.equal;
   back = back-option c.shows c.gives c.equal c.back never;
   taken = taken-option c.shows c.takes c.taken;
+  alike = λ law. alike-option c.gives c.equal (c.alike law);
+  taken_alike = λ law. taken-alike-option c.takes (c.taken_alike law);
 }
 
 -- of a pair
@@ -192,6 +218,8 @@ tuple2 c d = record {
   equal = λ p q. c.equal p.0 q.0 && d.equal p.1 q.1;
   back = back-pair c.shows d.shows c.gives c.equal c.back d.gives d.equal d.back;
   taken = taken-pair c.shows d.shows c.takes c.taken d.takes d.taken;
+  alike = λ law. alike-pair c.gives c.equal (c.alike law) d.gives d.equal (d.alike law);
+  taken_alike = λ law. taken-alike-pair c.takes d.takes (c.taken_alike law) (d.taken_alike law);
 }
 
 -- of a triple
@@ -204,6 +232,9 @@ tuple3 c d e = record {
   equal = λ p q. (c.equal p.0 q.0 && d.equal p.1 q.1) && e.equal p.2 q.2;
   back = back-triple c.shows d.shows e.shows c.gives c.equal c.back d.gives d.equal d.back e.gives e.equal e.back;
   taken = taken-triple c.shows d.shows e.shows c.takes c.taken d.takes d.taken e.takes e.taken;
+  alike = λ law. alike-triple c.gives c.equal (c.alike law) d.gives d.equal (d.alike law) e.gives e.equal (e.alike law);
+  taken_alike = λ law.
+      taken-alike-triple c.takes d.takes e.takes (c.taken_alike law) (d.taken_alike law) (e.taken_alike law);
 }
 
 -- of `BTreeMap<String, T>`
@@ -215,6 +246,8 @@ map c = record {
   equal = λ m n. pointwise (λ p q. string_eq p.0 q.0 && c.equal p.1 q.1) m.entries n.entries;
   back = back-map c.shows c.gives c.equal c.back;
   taken = taken-map c.shows c.takes c.taken;
+  alike = λ law. alike-map c.gives c.equal (c.alike law);
+  taken_alike = λ law. taken-alike-map c.takes (c.taken_alike law);
 }
 
 -- ---- a struct
@@ -276,6 +309,29 @@ pub taken-struct : {S : Type 0} (f : Fields S) (s : S) (v : Value) → shows_fie
     → (is_object v ≡ true) × takes_fields f v
 taken-struct f s v shown = (fields-object f s v shown, taken-fields f s v shown)
 
+-- of equal values equal fields are given
+pub alike-fields : {S : Type 0} (f : Fields S) → EqualIntegers → AlikeBy (gives_fields f) (equal_fields f)
+alike-fields (last key of c) law x y v w h f g =
+    entry-alike c.gives c.equal (c.alike law) (of x) (of y) v w key h f g
+alike-fields (field key of c rest) law x y v w h f g =
+    and_from (c.equal (of x) (of y)) (equal_fields rest x y)
+    (entry-alike c.gives c.equal (c.alike law) (of x) (of y) v w key h f.0 g.0)
+    (alike-fields rest law x y v w h f.1 g.1)
+
+taken-alike-fields : {S : Type 0} (f : Fields S) → EqualIntegers → TakenAlike (takes_fields f)
+taken-alike-fields (last key of c) law v w h cut taken =
+    entry-taken-alike c.takes (c.taken_alike law) v w key h cut taken
+taken-alike-fields (field key of c rest) law v w h cut taken = (
+  entry-taken-alike c.takes (c.taken_alike law) v w key h cut taken.0,
+  taken-alike-fields rest law v w h cut taken.1,
+)
+
+-- and one is taken if the other is
+pub taken-alike-struct : {S : Type 0} (f : Fields S) → EqualIntegers
+    → TakenAlike (λ v. (is_object v ≡ true) × takes_fields f v)
+taken-alike-struct f law v w h cut (is, taken) =
+    (ap (λ o. o.2) (sym (outlined v w h.0)) ∙ is, taken-alike-fields f law v w h cut taken)
+
 -- the codec of a struct that is written as an object of its fields
 abbrev pub struct_of : {S : Type 0} → Fields S → Codec S
 struct_of f = record {
@@ -285,4 +341,6 @@ struct_of f = record {
   equal = equal_fields f;
   back = back-fields f;
   taken = taken-struct f;
+  alike = alike-fields f;
+  taken_alike = taken-alike-struct f;
 }

@@ -21,6 +21,7 @@ use Rattle.jzon.specs.SameLaws.{object-elim, same_at}
 use Rattle.jzon.specs.Value.{Value, null, boolean, text, number, array, object, ValuePairs, no_pairs, pair, list_of_pairs, pairs_of}
 use Rattle.jzon_typed.specs.Alike.{AlikeBy, AreAlike, IsUncut, PairsUncut, TakenAlike}
 use Rattle.jzon_typed.specs.AlikeLaws.{by-same, outlined, swap}
+use Rattle.jzon_typed.specs.DecodeFields.{HasEntry}
 use Rattle.jzon_typed.specs.DecodeMaps.{ReadsEntries, TakesEntries}
 use Rattle.jzon_typed.specs.SortedMaps.{Meet, at_text, meet-some, no-left, no-right, sorted-equal}
 
@@ -95,6 +96,20 @@ found-by = by-same FoundAlike (λ f g k. tt) (λ b f g k. tt) (λ i j s f g k. t
 
 found-alike : (v w : Value) → AreAlike v w → (k : List ℕ) → Meet AreAlike (find k (entries v)) (find k (entries w))
 found-alike v w h k = found-by v w h.0 h.1 h.2 k
+
+-- if an entry's value is read alike, it is of equal objects
+pub entry-alike : {X : Type 0} (G : Value → X → Type 0) (E : X → X → Bool) → AlikeBy G E → (x y : X) (v w : Value)
+    (key : List ℕ) → AreAlike v w → HasEntry v key (λ u. G u x) → HasEntry w key (λ u. G u y) → E x y ≡ true
+entry-alike G E alike x y v w key h (a, at, f) (b, there, g) =
+    let both = meet-some AreAlike (find key (entries v)) (find key (entries w)) a b at there (found-alike v w h key) in
+    alike x y a b both f g
+
+-- and taken alike
+pub entry-taken-alike : (P : Value → Type 0) → TakenAlike P → (v w : Value) (key : List ℕ) → AreAlike v w → IsUncut w
+    → HasEntry v key P → HasEntry w key P
+entry-taken-alike P taken v w key h cut (a, at, holds) =
+    let there = meet-there AreAlike (find key (entries v)) (find key (entries w)) a at (found-alike v w h key) in
+    (there.0, there.1, taken a there.0 there.2 (uncut-found w cut key there.0 there.1) holds)
 
 -- if the values of the entries are taken alike, so is the object
 pub taken-alike-map : (P : Value → Type 0) → TakenAlike P → TakenAlike (TakesEntries P)

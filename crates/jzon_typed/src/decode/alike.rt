@@ -15,7 +15,16 @@ use std::collections::BTreeMap;
 
 /// Types that are read alike from equal values: the results are equal, and if one of the values is
 /// taken, so is the other, if of no number in it digits may have been cut. An implementation is a
-/// proof of both, and may use what `law` promises. A container is read alike if its content is.
+/// proof of both, and may use what `law` promises. A container is read alike if its content is, and a
+/// struct, of which `server` is the codec (`struct_of` of specs/Codec.antt), as here:
+///
+/// ```rust
+/// impl ReadsAlike for Server {
+///     ghost alike = { server.alike };
+///
+///     ghost taken_alike = { server.taken_alike };
+/// }
+/// ```
 pub trait ReadsAlike: FromJson + PartialEq {
     ghost alike: { EqualIntegers → AlikeBy Self.FromJson.gives Self.PartialEq.eq };
 
