@@ -1,7 +1,7 @@
 -- No message of an error is longer than 1,000 bytes: how long each part of it is at most. A lemma's last clause is of
 -- each variant that no other one names, so also of a new one.
-use Rattle.std.proofs.Common.{◌≡◌, ◌≤◌, ◌<◌, ◌^◌, ℕ, List, [], ◌++◌, length, Bool, true, false, if◌then◌else◌, Option}
-use Rattle.std.proofs.Common.{None, Some, decimal, nat_le, ap, inl, inr, arith, lit<, lit≤, length-append, string_bytes}
+use Rattle.std.proofs.Common.{◌≡◌, ◌≤◌, ◌<◌, ◌^◌, ℕ, List, [], ◌++◌, length, Bool, true, false, ◌==◌, if◌then◌else◌, Option}
+use Rattle.std.proofs.Common.{None, Some, decimal, encode_utf8, nat_le, ap, inl, inr, arith, lit<, lit≤, length-append, string_bytes}
 use Rattle.std.proofs.lemmas.Bool.{cases_lt}
 use Rattle.std.proofs.lemmas.Bool.Decides.{nat_tests}
 use Rattle.std.proofs.lemmas.Fmt.{length-decimal-le}
@@ -15,7 +15,7 @@ use Rattle.jzon_pointer.specs.Errors.{in_operation_text, inner_words, lost_text,
 use Rattle.jzon_pointer.specs.Errors.{place_of, pointer_of, pointer_words, position_of, text_of, text_words}
 use Rattle.jzon_pointer.specs.Errors.{what_words, words_text}
 use Rattle.jzon_pointer.specs.ErrorTexts.{parent_text, primitive_text, token_text}
-use Rattle.jzon_pointer.specs.Shown.{place_text, shown_char}
+use Rattle.jzon_pointer.specs.Shown.{escape_text, is_hidden, is_hidden_pair, pair_text, place_text, shown_char}
 use Rattle.jzon_pointer.specs.declared.error.Error.{Error}
 use Rattle.jzon_pointer.specs.declared.error.Inner.{Inner}
 use Rattle.jzon_pointer.specs.declared.error.Inner.TheVariants.{Text, Boxed}
@@ -63,11 +63,19 @@ few-shown s = grind (arith, nat_tests)
 number-short : (n : Decimal) → length (number_shown n) ≤ 29
 number-short n = few-shown (decimal_text n)
 
-char-short : (c : ℕ) → length (shown_char c) ≤ 12
-char-short c =
+wide-short : (c : ℕ) → length (if is_hidden_pair c then pair_text c else encode_utf8 c) ≤ 12
+wide-short c =
     let bytes = length-encode c in
     let few = len_utf8_bounds c in
-    search (either, lit≤, tt, arith)
+    either (is_hidden_pair c) (pair_text c) (encode_utf8 c) 12 (lit≤ tt) (search (lit≤, tt, arith))
+
+char-short : (c : ℕ) → length (shown_char c) ≤ 12
+char-short c =
+    either (c == 34) _ _ 12 (lit≤ tt)
+    (either (c == 92) _ _ 12 (lit≤ tt)
+    (either (c == 10) _ _ 12 (lit≤ tt)
+    (either (c == 13) _ _ 12 (lit≤ tt)
+    (either (c == 9) _ _ 12 (lit≤ tt) (either (is_hidden c) (escape_text c) _ 12 (lit≤ tt) (wide-short c))))))
 
 -- ---- what an error names
 

@@ -1,5 +1,5 @@
 -- An error stands where the value is, or the key, that its own pointer names.
-use Rattle.std.proofs.Common.{◌≡◌, ◌≢◌, ℕ, zero, suc, ◌<◌, ◌+◌, List, [], ◌∷◌, ◌++◌, get_or, length, Option, None, Some, Bor, chars, refl, sym, ap, ◌∙◌, subst, arith}
+use Rattle.std.proofs.Common.{◌≡◌, ◌≢◌, ℕ, suc, List, [], ◌∷◌, ◌++◌, Option, None, Some, Bor, chars, refl, sym, ap, ◌∙◌, subst, arith}
 use Rattle.std.specs.Prelude.{IfOk, Result, Err, Ok}
 use Rattle.jzon.specs.Error as text
 use Rattle.jzon.specs.Fault.{Parses}

@@ -1,4 +1,4 @@
-use Rattle.std.proofs.Common.{◌≡◌, ◌<◌, ◌||◌, ◌==◌, ℕ, List, [], nat_lt, nat_le, if◌then◌else◌, codes, sym, arith}
+use Rattle.std.proofs.Common.{◌≡◌, ◌<◌, ◌||◌, ◌==◌, ℕ, List, [], nat_lt, nat_le, if◌then◌else◌, codes, arith}
 use Rattle.std.proofs.Output.{has_written_of_eq, writes_in_calls_nil}
 use Rattle.std.proofs.lemmas.Bool.Decides.{nat_tests}
 use Rattle.jzon_pointer.specs.Shown.{shown_char}
