@@ -18,6 +18,7 @@ mod path;
 mod words;
 
 use crate::PointerError;
+use crate::shown::show_place;
 pub use found::{LONGEST, found_in, found_text, may_be_cut};
 use jzon::{LocatedError, Place, io_error};
 pub use parts::{Cause, Expected, Found, Known, Member};
@@ -25,7 +26,7 @@ use std::alloc::{AllocError, AllocFailed, Global};
 use std::io::ErrorKind;
 use std::{fmt, io};
 pub use words::Words;
-use words::{InMember, InOperation, Pointed, Position};
+use words::{show_member, show_operation, show_position};
 
 /// Why a call fails, and where: `/servers/1/port: expected an integer from 0 to 65535, found "80" at
 /// (4:14)`, or ``operation 3: `from`: /a/b: /a has no key "b"``.
@@ -168,36 +169,26 @@ impl Error {
     /// The error in operation `number` of a patch, from 0, and of its member if the pointer is that
     /// member's. The error of a text or of a failed allocation stays as it is (`Becomes`), as it
     /// does in `at_place` and `without_value`.
-    pub fn in_operation(self, number: usize, member: Option<Member>) -> Error
+    pub fn in_operation(mut self, number: usize, member: Option<Member>) -> Error
         ensures { Becomes self result (what_of self) (pointer_of self) (Some number) member
             (place_of self) }
     {
-        match self.inner {
-            Inner::Boxed(mut report) => {
-                report.operation = Some(number);
-                report.member = member;
-                Error {
-                    inner: Inner::Boxed(report),
-                }
-            }
-            inner => Error { inner },
+        if let Inner::Boxed(report) = &mut self.inner {
+            report.operation = Some(number);
+            report.member = member;
         }
+        self
     }
 
     /// The error at a place of the text that was read, or without one.
-    pub fn at_place(self, place: Option<Place>) -> Error
+    pub fn at_place(mut self, place: Option<Place>) -> Error
         ensures { Becomes self result (what_of self) (pointer_of self) (operation_of self)
             (member_of self) place }
     {
-        match self.inner {
-            Inner::Boxed(mut report) => {
-                report.place = place;
-                Error {
-                    inner: Inner::Boxed(report),
-                }
-            }
-            inner => Error { inner },
+        if let Inner::Boxed(report) = &mut self.inner {
+            report.place = place;
         }
+        self
     }
 
     /// The error without what is there, of which only the type is left, so that a password or a
@@ -209,23 +200,18 @@ impl Error {
     ///     .expected("password", "at least 12 characters")
     ///     .without_value(),
     /// ```
-    pub fn without_value(self) -> Error
+    pub fn without_value(mut self) -> Error
         ensures { Becomes self result (option_map hidden_what (what_of self)) (pointer_of self)
             (operation_of self) (member_of self) (place_of self) }
     {
-        match self.inner {
-            Inner::Boxed(mut report) => {
-                match &mut report.what {
-                    What::Wrong { found, .. } => *found = found.hidden(),
-                    What::Cut { found, .. } => *found = found.hidden(),
-                    _ => {}
-                }
-                Error {
-                    inner: Inner::Boxed(report),
-                }
+        if let Inner::Boxed(report) = &mut self.inner {
+            match &mut report.what {
+                What::Wrong { found, .. } => *found = found.hidden(),
+                What::Cut { found, .. } => *found = found.hidden(),
+                _ => {}
             }
-            inner => Error { inner },
         }
+        self
     }
 
     /// Whether an allocation failed. Such an error has no pointer, operation or place.
@@ -338,19 +324,14 @@ impl Error {
     }
 
     /// With another pointer.
-    fn moved(self, to: String) -> Error
+    fn moved(mut self, to: String) -> Error
         ensures { Becomes self result (what_of self) (string_bytes to) (operation_of self)
             (member_of self) (place_of self) }
     {
-        match self.inner {
-            Inner::Boxed(mut report) => {
-                report.pointer = to;
-                Error {
-                    inner: Inner::Boxed(report),
-                }
-            }
-            inner => Error { inner },
+        if let Inner::Boxed(report) = &mut self.inner {
+            report.pointer = to;
         }
+        self
     }
 
     /// The kind of the `io::Error` that it becomes.
@@ -376,12 +357,11 @@ impl fmt::Display for Error {
     ghost output = { λ e. Some (error_text e) };
 
     fn fmt<W: fmt::Write>(&self, f: &mut fmt::Formatter<W>) -> fmt::Result {
-        let operation = InOperation(self.operation());
-        let member = InMember(self.member());
-        let pointer = Pointed(self.pointer());
-        let words = self.words();
-        let position = Position(self.position());
-        write!(f, "{operation}{member}{pointer}{words}{position}")
+        show_operation(f, self.operation())?;
+        show_member(f, self.member())?;
+        show_place(f, self.pointer())?;
+        write!(f, "{}", self.words())?;
+        show_position(f, self.position())
     }
 }
 

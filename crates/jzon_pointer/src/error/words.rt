@@ -3,11 +3,10 @@
 ghost use Rattle.std.specs.Prelude.{◌≡◌, Some};
 ghost use Rattle.std.specs.Fmt.{WritesOnOk};
 ghost use Rattle.jzon_pointer.specs.Errors.{count_text, at_text, in_member_text, in_operation_text, lost_text, pointer_words, text_words, what_words, words_text};
-ghost use Rattle.jzon_pointer.specs.Shown.{place_text};
 
 use super::{Error, Inner, Member, What};
 use crate::pointer::{parent, token};
-use crate::shown::{ShownPointer, ShownToken, ShownWords, show_char, show_names, show_place};
+use crate::shown::{ShownPointer, ShownToken, ShownWords, show_char, show_names};
 use crate::{PointerError, Reason};
 use std::fmt;
 
@@ -26,59 +25,38 @@ impl fmt::Display for Count {
 }
 
 /// The number of a patch's operation, and a colon.
-#[derive(Clone, Copy)]
-pub struct InOperation(pub Option<usize>);
-
-impl fmt::Display for InOperation {
-    ghost output = { λ n. Some (in_operation_text n.0) };
-
-    fn fmt<W: fmt::Write>(&self, f: &mut fmt::Formatter<W>) -> fmt::Result {
-        match self.0 {
-            Some(number) => write!(f, "operation {}: ", Count(number)),
-            None => Ok(()),
-        }
+pub fn show_operation<W: fmt::Write>(
+    f: &mut fmt::Formatter<W>,
+    number: Option<usize>,
+) -> fmt::Result
+    ensures { WritesOnOk W.write_str_gives f.old result (in_operation_text number) f.new }
+{
+    match number {
+        Some(number) => write!(f, "operation {}: ", Count(number)),
+        None => Ok(()),
     }
 }
 
 /// The member that has a pointer, and a colon.
-#[derive(Clone, Copy)]
-pub struct InMember(pub Option<Member>);
-
-impl fmt::Display for InMember {
-    ghost output = { λ m. Some (in_member_text m.0) };
-
-    fn fmt<W: fmt::Write>(&self, f: &mut fmt::Formatter<W>) -> fmt::Result {
-        match self.0 {
-            Some(member) => write!(f, "{member}: "),
-            None => Ok(()),
-        }
-    }
-}
-
-/// A pointer and a colon; nothing of the empty one.
-#[derive(Clone, Copy)]
-pub struct Pointed<'a>(pub &'a str);
-
-impl fmt::Display for Pointed<'_> {
-    ghost output = { λ p. Some (place_text p.0.now) };
-
-    fn fmt<W: fmt::Write>(&self, f: &mut fmt::Formatter<W>) -> fmt::Result {
-        show_place(f, self.0)
+pub fn show_member<W: fmt::Write>(f: &mut fmt::Formatter<W>, member: Option<Member>) -> fmt::Result
+    ensures { WritesOnOk W.write_str_gives f.old result (in_member_text member) f.new }
+{
+    match member {
+        Some(member) => write!(f, "{member}: "),
+        None => Ok(()),
     }
 }
 
 /// A line and a column, if they are known.
-#[derive(Clone, Copy)]
-pub struct Position(pub Option<(usize, usize)>);
-
-impl fmt::Display for Position {
-    ghost output = { λ p. Some (at_text p.0) };
-
-    fn fmt<W: fmt::Write>(&self, f: &mut fmt::Formatter<W>) -> fmt::Result {
-        match self.0 {
-            Some((line, column)) => write!(f, " at ({}:{})", Count(line), Count(column)),
-            None => Ok(()),
-        }
+pub fn show_position<W: fmt::Write>(
+    f: &mut fmt::Formatter<W>,
+    position: Option<(usize, usize)>,
+) -> fmt::Result
+    ensures { WritesOnOk W.write_str_gives f.old result (at_text position) f.new }
+{
+    match position {
+        Some((line, column)) => write!(f, " at ({}:{})", Count(line), Count(column)),
+        None => Ok(()),
     }
 }
 
