@@ -9,9 +9,9 @@ use Rattle.jzon.specs.Reading.{Reading}
 use Rattle.jzon.specs.Grammar.{Node, Elements, Members, Each, IsNode, IsWhitespace}
 use Rattle.jzon.specs.TreeCharacters.{node_chars, elements_chars, members_chars}
 use Rattle.jzon.specs.Writing.{is_whitespace}
-use Rattle.jzon_pointer.specs.Private.Walk.{after_byte, after_whitespace, skim, string_rest}
-use Rattle.jzon_pointer.specs.declared.locate.Scan.{Scan}
-use Rattle.jzon_pointer.specs.declared.locate.Scan.TheVariants.{Outside, Quoted, Escaped}
+use Rattle.jzon_pointer.specs.Private.Walk.{after_byte, after_whitespace, is_blank, skim, string_rest}
+use Rattle.jzon_pointer.specs.Private.Walk.{Scan}
+use Rattle.jzon_pointer.specs.Private.Walk.{Outside, Quoted, Escaped}
 use Rattle.jzon_pointer.proofs.LocateSteps.{passes, pass_one, is_inner, inner_one, skim_element, skim_member, string_one}
 
 -- each byte is above 127
@@ -118,12 +118,12 @@ string_bytes (c ∷ cs) e =
           ∙ string_bytes cs false ∙ ap encode_utf8_all (sym (large_string e c cs large))
     ]
 
-pub blank_small : (s : Bool) (c : ℕ) → is_whitespace s c ≡ true → (c < 128) × (is_whitespace false c ≡ true)
+pub blank_small : (s : Bool) (c : ℕ) → is_whitespace s c ≡ true → (c < 128) × (is_blank c ≡ true)
 blank_small s c h = (grind (arith, nat_tests), grind (arith, nat_tests))
 
 -- whitespace is passed, up to a character that is none
 pub blanks_end : (s : Bool) (w : List ℕ) (c : ℕ) (t : List ℕ) → Each (is_whitespace s) w → c < 128
-    → is_whitespace false c ≡ false → after_whitespace (encode_utf8_all (w ++ (c ∷ t))) ≡ encode_utf8_all (c ∷ t)
+    → is_blank c ≡ false → after_whitespace (encode_utf8_all (w ++ (c ∷ t))) ≡ encode_utf8_all (c ∷ t)
 blanks_end s [] c t h small other =
     let e : encode_utf8_all (c ∷ t) ≡ c ∷ encode_utf8_all t = ap (λ z. z ++ encode_utf8_all t) (encode_ascii c small) in
     rw e (rw other refl)

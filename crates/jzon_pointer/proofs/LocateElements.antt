@@ -7,7 +7,7 @@ use Rattle.jzon.specs.Grammar.{Node, Elements, IsWhitespace}
 use Rattle.jzon_pointer.specs.Locate.{Named, element_named, elements_text, node_text}
 use Rattle.jzon_pointer.specs.Private.Walk.{AreWithin, From, IsElement, ReadsElement, after_whitespace, skim}
 use Rattle.jzon_pointer.specs.Pointer.{index_named}
-use Rattle.jzon_pointer.specs.declared.locate.Scan.TheVariants.{Outside}
+use Rattle.jzon_pointer.specs.Private.Walk.{Outside}
 use Rattle.jzon_pointer.proofs.LocateTexts.{one_byte}
 use Rattle.jzon_pointer.proofs.LocateWalks.{Passing, blanks_char, passing_byte, passing_end, passing_next, passing_start, passing_there}
 

@@ -16,7 +16,7 @@ use Rattle.jzon_pointer.specs.Private.Walk.{after_whitespace, skim}
 use Rattle.jzon_pointer.specs.declared.locate.Entry.{Entry}
 use Rattle.jzon_pointer.specs.declared.locate.Passed.{Passed}
 use Rattle.jzon_pointer.specs.declared.locate.Spot.{Spot}
-use Rattle.jzon_pointer.specs.declared.locate.Scan.TheVariants.{Outside}
+use Rattle.jzon_pointer.specs.Private.Walk.{Outside}
 use Rattle.jzon.proofs.ReadBack.UnmarkedCells.{plain_rest}
 use Rattle.jzon_pointer.proofs.LocateClear.{after_key}
 use Rattle.jzon_pointer.proofs.LocateMembers.{AtEntry, InObject, bracket_end, comes_last, comes_unique, entry_passed, in_object_start}

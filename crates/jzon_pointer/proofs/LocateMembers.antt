@@ -17,7 +17,7 @@ use Rattle.jzon_pointer.specs.Private.Walk.{EndsAfter, Passes, AreClear}
 use Rattle.jzon_pointer.specs.declared.locate.Entry.{Entry}
 use Rattle.jzon_pointer.specs.declared.locate.Passed.{Passed}
 use Rattle.jzon_pointer.specs.declared.locate.Spot.{Spot}
-use Rattle.jzon_pointer.specs.declared.locate.Scan.TheVariants.{Outside}
+use Rattle.jzon_pointer.specs.Private.Walk.{Outside}
 use Rattle.jzon_pointer.proofs.LocateSteps.{string_ends}
 use Rattle.jzon_pointer.proofs.LocateBytes.{string_bytes}
 use Rattle.jzon.proofs.ReadBack.UnmarkedCells.{plain_rest}

@@ -15,7 +15,7 @@ use Rattle.jzon.specs.Grammar as grammar
 use Rattle.jzon.specs.TreeCharacters.{fraction_chars, sign_chars, exponent_chars, magnitude_chars, numeral_chars}
 use Rattle.jzon.specs.TreeCharacters.{item_chars, items_chars, key_chars, node_chars, elements_chars, members_chars}
 use Rattle.jzon_pointer.specs.Private.Walk.{after_string, closed, parted, skim, string_rest}
-use Rattle.jzon_pointer.specs.declared.locate.Scan.TheVariants.{Outside, Quoted, Escaped}
+use Rattle.jzon_pointer.specs.Private.Walk.{Outside, Quoted, Escaped}
 
 -- ---- outside of strings
 

@@ -8,7 +8,6 @@ use Rattle.jzon.specs.Reading.{Reading, usual}
 use Rattle.jzon.specs.Grammar.{Numeral, Key, Node, Elements, no_elements, element, Members, no_members, member, IsNode, IsNumeral}
 use Rattle.jzon.specs.Grammar.{IsWhole}
 use Rattle.jzon.specs.Spelling.{plain}
-use Rattle.jzon.specs.Writing.{is_whitespace}
 use Rattle.jzon.proofs.Texts.Cells.{chars_of, chars-plain}
 use Rattle.jzon.specs.TreeCharacters.{node_chars, elements_chars, members_chars, items_chars, numeral_chars, magnitude_chars}
 use Rattle.jzon.specs.TreeCharacters.{fraction_chars, exponent_chars}
@@ -92,7 +91,7 @@ text_no_members k = members_text_is no_members k
 
 -- no bracket that closes, no comma, no whitespace, and one byte
 abbrev pub starts : ℕ → Bool
-starts c = nat_lt 0 c && (nat_lt c 128 && not (is_whitespace false c || (c == 93 || (c == 125 || c == 44))))
+starts c = nat_lt 32 c && (nat_lt c 128 && not (c == 93 || (c == 125 || c == 44)))
 
 -- the text begins with such a character
 pub record Begins (cs : List ℕ) : Type 0 where

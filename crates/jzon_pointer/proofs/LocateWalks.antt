@@ -10,15 +10,14 @@ use Rattle.jzon.specs.Reading.{Reading}
 use Rattle.jzon.specs.Grammar.{Node, Elements, no_elements, element, Members, IsNode, IsWhitespace}
 use Rattle.jzon.specs.Grammar.{AreElements}
 use Rattle.jzon.specs.Spelling.{Breach, Cell, plain, deep_if, node_cells, elements_cells}
-use Rattle.jzon.specs.Writing.{is_whitespace}
 use Rattle.jzon_pointer.specs.Locate.{Named, value_text, unnamed, element_named}
-use Rattle.jzon_pointer.specs.Private.Walk.{after_whitespace, skim, From}
+use Rattle.jzon_pointer.specs.Private.Walk.{after_whitespace, is_blank, skim, From}
 use Rattle.jzon_pointer.specs.Locate.{child_named, named_in, node_text, elements_text, members_text}
 use Rattle.jzon_pointer.specs.Private.Walk.{IsSpotOf, Stands, Goes}
 use Rattle.jzon_pointer.specs.Private.Walk.{Comes, EndsAfter, Finds, AreWithin, IsElement, ReadsElement, AreClear}
 use Rattle.jzon_pointer.specs.declared.locate.Passed.{Passed}
 use Rattle.jzon_pointer.specs.declared.locate.Spot.{Spot}
-use Rattle.jzon_pointer.specs.declared.locate.Scan.TheVariants.{Outside}
+use Rattle.jzon_pointer.specs.Private.Walk.{Outside}
 use Rattle.jzon_pointer.proofs.LocateSteps.{pass_node, pass_elements, skim_element, skim_member}
 use Rattle.jzon_pointer.proofs.LocateBytes.{skim_bytes, blanks_end}
 use Rattle.jzon.proofs.ReadBack.UnmarkedCells.{plain_rest}
@@ -80,7 +79,7 @@ after_member r c ms k w =
 
 -- ---- whitespace
 
-no_blank : (c : ℕ) → starts c ≡ true → (c < 128) × (is_whitespace false c ≡ false)
+no_blank : (c : ℕ) → starts c ≡ true → (c < 128) × (is_blank c ≡ false)
 no_blank c h = (grind (arith, nat_tests), grind (arith, nat_tests))
 
 -- whitespace before a text that begins a value
@@ -93,7 +92,7 @@ blanks_before r w cs h b =
 
 -- and before one character
 pub blanks_char : (r : Reading) (w : List ℕ) (c : ℕ) (cs : List ℕ) → IsWhitespace r w → c < 128
-    → is_whitespace false c ≡ false → after_whitespace (encode_utf8_all (w ++ c ∷ cs)) ≡ encode_utf8_all (c ∷ cs)
+    → is_blank c ≡ false → after_whitespace (encode_utf8_all (w ++ c ∷ cs)) ≡ encode_utf8_all (c ∷ cs)
 blanks_char r w c cs h small other = blanks_end r.strict w c cs h small other
 
 -- ---- primitives, and values that are too deep

@@ -6,21 +6,24 @@
 //! `Walk::find`, `find_element`, `find_member` and `pass_entry` call one another, once for each token;
 //! proofs/locate/Walk/+walk says what gets smaller: the number of tokens that are left.
 
-ghost use Rattle.std.specs.Prelude.{◌≡◌, ◌<◌, ◌≤◌, ◌+◌, ◌^◌, ◌∷◌, ◌++◌, [], List, ℕ, drop, length, chars, false, true, IfErr, IfOk, IfSome, IsOk, Ok, map, None, option_map, Some, slice_index};
+ghost use Rattle.std.specs.Prelude.{◌≡◌, ◌<◌, ◌≤◌, ◌+◌, ◌^◌, ◌∷◌, ◌++◌, [], List, ℕ, drop, length, chars, false, true, IfErr, IfOk, IfSome, IsOk, Ok, map, None, option_map, Some, slice_index, take};
+ghost use Rattle.std.specs.List.{prefix_len};
 ghost use Rattle.jzon_base.specs.declared.error.Error.TheVariants.{OutOfMemory};
 ghost use Rattle.jzon.specs.Fault.{Parses};
 ghost use Rattle.jzon.specs.Grammar.{Document};
-ghost use Rattle.jzon.specs.Writing.{is_whitespace};
+ghost use Rattle.jzon.specs.Private.Lines.{is_below};
 ghost use Rattle.jzon_pointer.specs.Locate.{has_slash, IsMeant, IsPlaceIn, IsPlaceOf, pointed, value_text};
-ghost use Rattle.jzon_pointer.specs.Private.Walk.{EndsAfter, Finds, IsSpotOf, NamesQuoted, Passes, ReadsElement, ReadsEntry, ReadsKey, after_byte, after_string, after_whitespace, depth, is_memory, skim, string_rest};
+ghost use Rattle.jzon_pointer.specs.Private.Walk.{EndsAfter, Finds, IsSpotOf, NamesQuoted, Passes, ReadsElement, ReadsEntry, ReadsKey, after_string, after_whitespace, is_memory, Outside, skim, string_rest};
 ghost use Rattle.jzon_pointer.specs.Pointer.{index_named, names, tokens_of};
-ghost use Rattle.jzon_pointer.specs.declared.locate.Scan.{Scan};
-ghost use Rattle.jzon_pointer.specs.declared.locate.Scan.TheVariants.{Outside, Quoted};
 
 use crate::token::{first_token, index_of, is_name};
 use jzon::{Error, Place, Reading, parse};
 use jzon_base::util::plain::plain_len;
 use std::alloc::{AllocError, Global};
+use std::simd::prelude::*;
+
+/// How many bytes are compared at once.
+const LANES: usize = 16;
 
 /// No index has more digits.
 const INDEX_DIGITS: usize = 20;
@@ -63,14 +66,6 @@ struct Walk<'a> {
     depth: usize,
     /// Whether no object has a key twice.
     unique: bool,
-}
-
-/// What a byte of an item's text is part of, inside this many brackets of the item.
-#[derive(Clone, Copy)]
-enum Scan {
-    Outside(usize),
-    Quoted(usize),
-    Escaped(usize),
 }
 
 /// The place of the value that a pointer names in a text that the reading accepts: of a repeated key
@@ -443,26 +438,74 @@ fn byte_at(bytes: &[u8], at: usize) -> u8
     }
 }
 
-/// The offset after the whitespace at an offset.
+/// The offset after the whitespace at an offset. Most often there is none, so that is tested first.
 fn whitespace_end(bytes: &[u8], start: usize) -> usize
     requires { start ≤ length bytes.now }
     ensures rest { drop result bytes.now ≡ after_whitespace (drop start bytes.now) }
+    ensures skims { (d : ℕ) → skim (Outside d) (drop result bytes.now) ≡ skim (Outside d) (drop start bytes.now) }
     ensures after { start ≤ result }
     ensures within { result ≤ length bytes.now }
 {
-    let mut at = start;
-    while at < bytes.len() && is_blank(bytes[at]) {
-        at += 1;
+    if start < bytes.len() && bytes[start] > b' ' {
+        return start;
     }
-    at
+    // In a text that a reading accepts, a byte up to the space that is outside of strings is whitespace.
+    run_end(bytes, start, 0, b' ' + 1)
 }
 
-/// Whether a byte is whitespace for a reading that isn't strict. A text that a strict one accepts
-/// has the two other characters nowhere, so they needn't be told apart.
-fn is_blank(byte: u8) -> bool
-    ensures { result ≡ is_whitespace false byte }
+/// The offset after the digits at an offset. Numbers may be long, and have no byte that counts here.
+fn digits_end(bytes: &[u8], start: usize) -> usize
+    requires { start ≤ length bytes.now }
+    ensures skims { (d : ℕ) → skim (Outside d) (drop result bytes.now) ≡ skim (Outside d) (drop start bytes.now) }
+    ensures after { start ≤ result }
+    ensures within { result ≤ length bytes.now }
 {
-    matches!(byte, b' ' | b'\t'..=b'\r')
+    // `^ b'0'` makes the digits 0 to 9, and no other byte.
+    run_end(bytes, start, b'0', 10)
+}
+
+/// The offset after the bytes at an offset that are below `bound` after `^ turn`. Many are compared
+/// at once.
+#[inline(never)]
+fn run_end(bytes: &[u8], start: usize, turn: u8, bound: u8) -> usize
+    requires { start ≤ length bytes.now }
+    ensures { result ≡ start + prefix_len (is_below turn bound) (drop start bytes.now) }
+{
+    let mut at = start;
+    while bytes.len() - at >= LANES {
+        let run = run_in_lanes(bytes, at, turn, bound);
+        if run < LANES {
+            return at + run;
+        }
+        at += LANES;
+    }
+    at + run_by_bytes(&bytes[at..], turn, bound)
+}
+
+/// How many bytes at the start are below `bound` after `^ turn`, byte by byte.
+fn run_by_bytes(bytes: &[u8], turn: u8, bound: u8) -> usize
+    ensures { result ≡ prefix_len (is_below turn bound) bytes.now }
+{
+    bytes
+        .iter()
+        .take_while(|byte| (**byte ^ turn) < bound)
+        .count()
+}
+
+/// The same of the `LANES` bytes at an offset.
+#[inline(always)]
+fn run_in_lanes(bytes: &[u8], start: usize, turn: u8, bound: u8) -> usize
+    requires { start + LANES ≤ length bytes.now }
+    ensures { result ≡ prefix_len (is_below turn bound) (take LANES (drop start bytes.now)) }
+{
+    let lanes = Simd::<u8, 16>::from_slice(&bytes[start..]);
+    let others = (lanes ^ Simd::splat(turn)).simd_ge(Simd::splat(bound));
+    let mask = others.to_bitmask();
+    if mask == 0 {
+        LANES
+    } else {
+        mask.trailing_zeros() as usize
+    }
 }
 
 /// The offset after the string whose opening quote ends at an offset, or that of the end.
@@ -481,6 +524,9 @@ fn string_end(bytes: &[u8], start: usize) -> usize
             return at;
         }
         escaped = !escaped && byte == b'\\';
+        if !escaped {
+            at = plain_end(bytes, at);
+        }
     }
     at
 }
@@ -488,7 +534,6 @@ fn string_end(bytes: &[u8], start: usize) -> usize
 /// The offset after the bytes of a string from an offset on that need no escape.
 fn plain_end(bytes: &[u8], at: usize) -> usize
     requires { at ≤ length bytes.now }
-    ensures skims { (d : ℕ) → skim (Quoted d) (drop result bytes.now) ≡ skim (Quoted d) (drop at bytes.now) }
     ensures string { string_rest false (drop result bytes.now) ≡ string_rest false (drop at bytes.now) }
     ensures after { at ≤ result }
     ensures within { result ≤ length bytes.now }
@@ -505,45 +550,24 @@ fn item_end(bytes: &[u8], start: usize, brackets: usize) -> usize
     ensures after { start ≤ result }
     ensures within { result ≤ length bytes.now }
 {
-    let mut scan = Scan::Outside(brackets);
+    let mut depth = brackets;
     let mut at = start;
     while at < bytes.len() {
-        match scan.after(bytes[at]) {
-            Some(Scan::Quoted(depth)) => {
-                scan = Scan::Quoted(depth);
-                at = plain_end(bytes, at + 1);
-            }
-            Some(next) => {
-                scan = next;
+        match bytes[at] {
+            b'"' => at = string_end(bytes, at + 1),
+            b'[' | b'{' => {
+                depth += 1;
                 at += 1;
             }
-            None => return at,
+            b']' | b'}' | b',' if depth == 0 => return at,
+            b']' | b'}' => {
+                depth -= 1;
+                at += 1;
+            }
+            0..=b' ' => at = whitespace_end(bytes, at + 1),
+            b'0'..=b'9' => at = digits_end(bytes, at + 1),
+            _ => at += 1,
         }
     }
     at
-}
-
-impl Scan {
-    /// After one more byte; `None` if the item ends before it.
-    fn after(self, byte: u8) -> Option<Scan>
-        requires { depth self + 1 < 2 ^ 64 }
-        ensures { result ≡ after_byte self byte }
-    {
-        match self {
-            Scan::Escaped(depth) => Some(Scan::Quoted(depth)),
-            Scan::Quoted(depth) => match byte {
-                b'"' => Some(Scan::Outside(depth)),
-                b'\\' => Some(Scan::Escaped(depth)),
-                _ => Some(Scan::Quoted(depth)),
-            },
-            Scan::Outside(depth) => match byte {
-                b'"' => Some(Scan::Quoted(depth)),
-                b'[' | b'{' => Some(Scan::Outside(depth + 1)),
-                b']' | b'}' if depth == 0 => None,
-                b']' | b'}' => Some(Scan::Outside(depth - 1)),
-                b',' if depth == 0 => None,
-                _ => Some(Scan::Outside(depth)),
-            },
-        }
-    }
 }

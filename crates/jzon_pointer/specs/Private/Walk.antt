@@ -1,7 +1,7 @@
 -- How src/locate.rt walks a text to the value that a pointer names: what each of its functions finds. A text is its
 -- bytes, or its characters: none of those that count here has more than one byte.
 use Rattle.std.specs.Prelude.{◌≡◌, ◌≤◌, ⊤, drop, length, ℕ, zero, suc, List, [], ◌∷◌, ◌++◌, Option, None, Some}
-use Rattle.std.specs.Prelude.{Bool, true, false, not, ◌&&◌, ◌==◌, ◌||◌, if◌then◌else◌, option_and_then, encode_utf8_all}
+use Rattle.std.specs.Prelude.{Bool, true, false, not, ◌&&◌, ◌==◌, ◌||◌, if◌then◌else◌, nat_lt, option_and_then, encode_utf8_all}
 use Rattle.std.specs.Option.{MatchOption, option_map_or}
 use Rattle.std.specs.Str.{IsCharBoundary}
 use Rattle.jzon_base.specs.declared.error.Error.{Error}
@@ -10,13 +10,10 @@ use Rattle.jzon.specs.Grammar.{Node, Elements, Members, member, Key, IsNode, Are
 use Rattle.jzon.specs.Meaning.{bytes_of}
 use Rattle.jzon.specs.Reading.{Reading}
 use Rattle.jzon.specs.Spelling.{Breach, Cell, plain, node_cells, elements_cells, members_cells, key_cells}
-use Rattle.jzon.specs.Writing.{is_whitespace}
 use Rattle.jzon_pointer.specs.Locate.{Named, element_named, elements_text, key_text, keyed, members_text, named_in, node_text, unnamed, value_text}
 use Rattle.jzon_pointer.specs.Pointer.{index_named, names}
 use Rattle.jzon_pointer.specs.declared.locate.Entry.{Entry}
 use Rattle.jzon_pointer.specs.declared.locate.Passed.{Passed}
-use Rattle.jzon_pointer.specs.declared.locate.Scan.{Scan}
-use Rattle.jzon_pointer.specs.declared.locate.Scan.TheVariants.{Outside, Quoted, Escaped}
 use Rattle.jzon_pointer.specs.declared.locate.Spot.{Spot}
 
 -- an allocation failed
@@ -24,10 +21,15 @@ abbrev pub is_memory : Error → Bool
 is_memory OutOfMemory = true
 is_memory _ = false
 
--- the text after its whitespace, that of a reading that isn't strict
+-- The byte or character is a space or below it. Outside of strings, a text that a reading accepts has only whitespace
+-- there.
+abbrev pub is_blank : ℕ → Bool
+is_blank c = nat_lt c 33
+
+-- the text after its whitespace
 abbrev pub after_whitespace : List ℕ → List ℕ
 after_whitespace [] = []
-after_whitespace (c ∷ cs) = if is_whitespace false c then after_whitespace cs else c ∷ cs
+after_whitespace (c ∷ cs) = if is_blank c then after_whitespace cs else c ∷ cs
 
 -- the text after the string whose opening quote is before it, or of which a backslash is
 abbrev pub string_rest : Bool → List ℕ → List ℕ
@@ -38,11 +40,11 @@ string_rest escaped (c ∷ cs) = if not escaped && c == 34 then cs else string_r
 abbrev pub after_string : List ℕ → List ℕ
 after_string cs = string_rest false cs
 
--- how many brackets of an item are open
-abbrev pub depth : Scan → ℕ
-depth (Outside d) = d
-depth (Quoted d) = d
-depth (Escaped d) = d
+-- what a byte or character of an item is part of, inside this many brackets of the item
+pub data Scan : Type 0 where
+  Outside : ℕ → Scan
+  Quoted : ℕ → Scan
+  Escaped : ℕ → Scan
 
 -- after a closing bracket; none if it isn't one of the item
 abbrev pub closed : ℕ → Option Scan

@@ -1,7 +1,7 @@
 use Rattle.std.proofs.Common.{rules, arith, refl, sym, subst, ◌≡◌, ◌∙◌, ◌+◌, List, ℕ, Bool, drop, None, Some, inl, inr, slice_index}
 use Rattle.std.proofs.lemmas.Result.{IfOk-weaker}
 use Rattle.jzon_pointer.specs.Private.Walk.{ReadsElement, ReadsEntry, ReadsKey, after_whitespace, skim}
-use Rattle.jzon_pointer.specs.declared.locate.Scan.TheVariants.{Outside}
+use Rattle.jzon_pointer.specs.Private.Walk.{Outside}
 use Rattle.jzon_pointer.proofs.LocateFinds.{element_closed, element_kept, finds_all, finds_element, finds_last, finds_no_element}
 use Rattle.jzon_pointer.proofs.LocateFinds.{finds_none, finds_unique, finds_whole, inside_first, inside_next, passes_into}
 use Rattle.jzon_pointer.proofs.LocateFinds.{passes_over, texts, tokens_end, tokens_some, tokens_split}
