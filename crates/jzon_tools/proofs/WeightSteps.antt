@@ -1,5 +1,5 @@
 -- How deep and how heavy the values in a container are, as lists.
-use Rattle.std.proofs.Common.{◌≡◌, ℕ, zero, suc, max, List, [], ◌∷◌, map, Bool, ◌&&◌, nat_lt, nat_le, ap, ◌∙◌, arith}
+use Rattle.std.proofs.Common.{◌≡◌, ℕ, zero, suc, max, List, [], ◌∷◌, map, Bool, ◌&&◌, Option, None, Some, IfSome, nat_lt, nat_le, ap, ◌∙◌, arith}
 use Rattle.std.proofs.lemmas.Bool.Decides.{nat_tests}
 use Rattle.std.specs.List.{list_all}
 use Rattle.jzon.specs.JsonValue.{JsonValue}
@@ -51,8 +51,20 @@ pairs-nest (p ∷ ps) zero =
 pairs-nest (p ∷ ps) (suc n) =
     one_more (max (nest (view p.1)) (most_nest_under (value.pairs_of (viewed ps)))) n ∙ most_under-below (p ∷ ps) n
 
+-- what is seen as such an array, or such an object, nests so deep if each value in it nests less
+pub array-nest : (v : JsonValue) (xs : List JsonValue) (n : ℕ) → view v ≡ array (value.values_of (map view xs))
+    → nat_le (nest (view v)) n ≡ list_all (λ w. nat_lt (nest w) n) (map view xs)
+array-nest v xs n is = ap (λ w. nat_le (nest w) n) is ∙ values-nest (map view xs) n
+
+pub object-nest : (v : JsonValue) (ps : List (List ℕ × JsonValue)) (n : ℕ)
+    → view v ≡ object (value.pairs_of (viewed ps))
+    → nat_le (nest (view v)) n ≡ list_all (λ w. nat_lt (nest w) n) (map view (values_of ps))
+object-nest v ps n is = ap (λ w. nat_le (nest w) n) is ∙ pairs-nest ps n
+
+-- what holds of what is there is followed by what follows from it
+pub some-weaker : {A : Type 0} {P Q : Type 0} (o : Option A) → (P → Q) → IfSome o (λ _. P) → IfSome o (λ _. Q)
+some-weaker None f h = h
+some-weaker (Some x) f h = f h
+
 pub ruleset nesting =
     (view-Array, view-Object, view-Short, view-String, view-Number, view-Null, view-Boolean, values-nest, pairs-nest)
-
-pub ruleset weighing =
-    (view-Array, view-Object, view-Short, view-String, view-Number, view-Null, view-Boolean)

@@ -7,7 +7,7 @@
 //! may have to be undone, and the clone is put back after an error: tests change nothing, and of the
 //! others each but a move fails without a change, so no clone is made before the last operation.
 
-ghost use Rattle.std.specs.Prelude.{◌≡◌, ◌+◌, ◌<◌, ◌≤◌, max, ℕ, List, [], OnOk, OnErr, IfOk, IfErr, Err, None, Some, false, true, codes, option_map};
+ghost use Rattle.std.specs.Prelude.{◌≡◌, ◌+◌, ◌<◌, ◌≤◌, ◌⊎◌, max, ℕ, List, [], OnOk, OnErr, IfOk, IfErr, IfSome, Err, None, Some, false, true, codes, option_and_then, option_map};
 ghost use Rattle.std.specs.Option.{option_map_or};
 ghost use Rattle.jzon.specs.Value.{Value, nest};
 ghost use Rattle.jzon.specs.View.{view};
@@ -301,14 +301,7 @@ fn operate(
             replace(value, path, cloned(alloc, new)?)
         }
         Op::Move => relocate(alloc, value, text(operation, Member::From)?, path, left),
-        Op::Copy => {
-            let original = look(value, Member::From, text(operation, Member::From)?)?;
-            admit(path, original, left.depth)?;
-            let room = weigh(original, left.copied).ok_or(Fault::Operation(Cause::TooLarge))?;
-            let new = cloned(alloc, original)?;
-            left.copied = room;
-            put(alloc, value, path, new)
-        }
+        Op::Copy => duplicate(alloc, value, text(operation, Member::From)?, path, left),
         Op::Test => test(value, path, operand(operation)?),
     }
 }
@@ -324,6 +317,36 @@ fn admit(path: &str, new: &JsonValue, depth: usize) -> Result<(), Fault>
     } else {
         Err(Fault::Operation(Cause::TooDeep))
     }
+}
+
+/// As `admit`, of what a patch copies or moves: it may also weigh at most `room`, of which is returned
+/// what is left. One that passes both limits is too deep.
+fn admit_weighed(path: &str, new: &JsonValue, depth: usize, room: usize) -> Result<usize, Fault>
+    ensures ok { IfOk result (λ left. left + weight (view new.now) ≡ room) }
+    ensures depth { OnOk result (slashes path.now + nest (view new.now) ≤ depth) }
+    ensures err { IfErr result (λ e. ((e ≡ Operation causes.TooDeep)
+        × (depth < slashes path.now + nest (view new.now)))
+        ⊎ ((e ≡ Operation causes.TooLarge) × (room < weight (view new.now)))) }
+{
+    match weigh_at(path, new, depth, room) {
+        Some(left) => Ok(left),
+        None => {
+            admit(path, new, depth)?;
+            Err(Fault::Operation(Cause::TooLarge))
+        }
+    }
+}
+
+/// What is left of `room` after the weight of a value, or `None` if it weighs more, or if `admit` refuses
+/// it.
+fn weigh_at(path: &str, new: &JsonValue, depth: usize, room: usize) -> Option<usize>
+    ensures some { IfSome result (λ left. left + weight (view new.now) ≡ room) }
+    ensures depth { IfSome result (λ _. slashes path.now + nest (view new.now) ≤ depth) }
+    ensures none { result ≡ None → slashes path.now + nest (view new.now) ≤ depth
+        → room < weight (view new.now) }
+{
+    let inside = depth.checked_sub(edit::slashes(path))?;
+    weigh(new, inside, room)
 }
 
 /// A copy, with the error of a patch.
@@ -406,6 +429,34 @@ fn replace(value: &mut JsonValue, path: &str, new: JsonValue) -> Result<(), Faul
     }
 }
 
+/// Copies a value. It is walked first: at its new place it may nest too deep, or weigh too much.
+fn duplicate(
+    alloc: Global,
+    value: &mut JsonValue,
+    from: &str,
+    path: &str,
+    left: &mut Limits,
+) -> Result<(), Fault>
+    ensures done { IsDone (option_and_then (λ w. added_at w (view value.old) path.now)
+        (value_of (view value.old) from.now)) (view value.new) result }
+    ensures depth { OnOk result (option_map_or (λ w. slashes path.now + nest w)
+        (value_of (view value.old) from.now) 0 ≤ left.old.depth) }
+    ensures copied { OnOk result (left.new.copied + option_map_or weight
+        (value_of (view value.old) from.now) 0 ≡ left.old.copied) }
+    ensures left { OnOk result
+        ((left.new.depth ≡ left.old.depth) × (left.new.moved ≡ left.old.moved)) }
+    ensures err { OnErr result (view value.new ≡ view value.old) }
+    ensures cause { (op : Value) → meaning.op_of op ≡ Some ops.Copy
+        → text_at (codes "from") op ≡ Some from.now → text_at (codes "path") op ≡ Some path.now
+        → IfErr result (λ e. IsCause e left.old op (view value.old)) }
+{
+    let original = look(value, Member::From, from)?;
+    let room = admit_weighed(path, original, left.depth, left.copied)?;
+    let new = cloned(alloc, original)?;
+    left.copied = room;
+    put(alloc, value, path, new)
+}
+
 /// Moves a value. It is walked if the place is deeper: it may nest too deep there, or weigh too much.
 fn relocate(
     alloc: Global,
@@ -427,8 +478,7 @@ fn relocate(
 {
     let source = look(value, Member::From, from)?;
     if is_deeper(path, from) {
-        admit(path, source, left.depth)?;
-        left.moved = weigh(source, left.moved).ok_or(Fault::Operation(Cause::TooLarge))?;
+        left.moved = admit_weighed(path, source, left.depth, left.moved)?;
     }
     if from == path {
         return Ok(());

@@ -1,10 +1,11 @@
 //! How deep a value nests, and how much it weighs, up to a limit: each call ends where the value
 //! passes it.
 
-ghost use Rattle.std.specs.Prelude.{◌≡◌, ◌+◌, ◌<◌, nat_le, nat_lt, map, None, IfSome};
+ghost use Rattle.std.specs.Prelude.{◌≡◌, ◌+◌, ◌<◌, nat_le, nat_lt, map, true, None, IfSome};
 ghost use Rattle.std.specs.List.{list_all};
 ghost use Rattle.std.specs.Slice.Iter.{iter_rest};
 ghost use Rattle.jzon.specs.Entries.{entries_of};
+ghost use Rattle.jzon.specs.PairList.{values_of};
 ghost use Rattle.jzon.specs.Value.{nest};
 ghost use Rattle.jzon.specs.View.{view, view_pairs, view_values};
 ghost use Rattle.jzon_tools.specs.Weight.{weight, weight_pairs, weight_values};
@@ -19,6 +20,7 @@ const EACH: usize = 48;
 /// Whether at most `depth` non-empty containers nest in the value. Ends at the first that is too
 /// deep.
 #[cycle(nests)]
+#[inline(always)]
 #[tactic(auto, using(crate::proofs::WeightSteps::nesting))]
 pub fn nests_within(value: &JsonValue, depth: usize) -> bool
     ensures { result ≡ nat_le (nest (view value.now)) depth }
@@ -43,49 +45,61 @@ fn all_nest_within(values: slice::Iter<'_, JsonValue>, depth: usize) -> bool
     true
 }
 
-/// What is left of `room` after the weight of the value, or `None` if it weighs more.
+/// What is left of `room` after the weight of the value, or `None` if it weighs more, or if more than
+/// `depth` non-empty containers nest in it: one walk for both.
 #[cycle(weigh)]
-#[tactic(auto, using(crate::proofs::WeightSteps::weighing))]
-pub fn weigh(value: &JsonValue, room: usize) -> Option<usize>
+#[inline(always)]
+#[tactic(auto, using(crate::proofs::WeightSteps::nesting))]
+pub fn weigh(value: &JsonValue, depth: usize, room: usize) -> Option<usize>
     ensures some { IfSome result (λ left. left + weight (view value.now) ≡ room) }
-    ensures none { result ≡ None → room < weight (view value.now) }
+    ensures depth { IfSome result (λ _. nat_le (nest (view value.now)) depth ≡ true) }
+    ensures none { result ≡ None → nat_le (nest (view value.now)) depth ≡ true
+        → room < weight (view value.now) }
 {
     let room = room.checked_sub(EACH)?;
     match value {
         JsonValue::Short(text) => room.checked_sub(text.as_str().len()),
         JsonValue::String(text) => room.checked_sub(text.len()),
-        JsonValue::Array(items) => weigh_items(items.iter(), room),
-        JsonValue::Object(object) => weigh_members(object, room),
+        JsonValue::Array(items) => weigh_items(items.iter(), depth, room),
+        JsonValue::Object(object) => weigh_members(object, depth, room),
         _ => Some(room),
     }
 }
 
 /// As `weigh`, of the elements of an array together.
 #[cycle(weigh)]
-#[tactic(auto, using(crate::proofs::WeightSteps::weighing))]
-fn weigh_items(items: slice::Iter<'_, JsonValue>, room: usize) -> Option<usize>
+#[tactic(auto, using(crate::proofs::WeightSteps::nesting))]
+fn weigh_items(items: slice::Iter<'_, JsonValue>, depth: usize, room: usize) -> Option<usize>
     ensures some { IfSome result (λ left.
         left + weight_values (view_values (iter_rest items.entry)) ≡ room) }
-    ensures none { result ≡ None → room < weight_values (view_values (iter_rest items.entry)) }
+    ensures depth { IfSome result (λ _.
+        list_all (λ v. nat_lt (nest v) depth) (map view (iter_rest items.entry)) ≡ true) }
+    ensures none { result ≡ None
+        → list_all (λ v. nat_lt (nest v) depth) (map view (iter_rest items.entry)) ≡ true
+        → room < weight_values (view_values (iter_rest items.entry)) }
 {
     let mut left = room;
     for item in items {
-        left = weigh(item, left)?;
+        left = weigh(item, depth.checked_sub(1)?, left)?;
     }
     Some(left)
 }
 
 /// As `weigh`, of the keys and the values of an object together.
 #[cycle(weigh)]
-#[tactic(auto, using(crate::proofs::WeightSteps::weighing))]
-fn weigh_members(object: &Object, room: usize) -> Option<usize>
+#[tactic(auto, using(crate::proofs::WeightSteps::nesting))]
+fn weigh_members(object: &Object, depth: usize, room: usize) -> Option<usize>
     ensures some { IfSome result (λ left.
         left + weight_pairs (view_pairs (entries_of object.now)) ≡ room) }
-    ensures none { result ≡ None → room < weight_pairs (view_pairs (entries_of object.now)) }
+    ensures depth { IfSome result (λ _.
+        list_all (λ v. nat_lt (nest v) depth) (map view (values_of (entries_of object.now))) ≡ true) }
+    ensures none { result ≡ None
+        → list_all (λ v. nat_lt (nest v) depth) (map view (values_of (entries_of object.now))) ≡ true
+        → room < weight_pairs (view_pairs (entries_of object.now)) }
 {
     let mut left = room;
     for (key, value) in object.iter() {
-        left = weigh(value, left.checked_sub(key.len())?)?;
+        left = weigh(value, depth.checked_sub(1)?, left.checked_sub(key.len())?)?;
     }
     Some(left)
 }
