@@ -23,7 +23,8 @@ use std::alloc::Global;
 /// are equal. Objects are compared key by key, and arrays index by index, at each depth; of arrays of
 /// different lengths the equal elements at the beginning and at the end are left as they are, and
 /// what is between is changed, and then cut or added to. Anything else that differs is replaced, as
-/// are values at a path of more than 512 bytes.
+/// are values at a path of more than 512 bytes, and an array or an object of which so many parts are
+/// removed, or inserted before others, that `apply` would move more than 2^24 in it.
 ///
 /// Takes time in proportion to both values, and memory for the patch: at most about 1,500 bytes for each
 /// operation, beside the new values and the keys that it has. Goes at most 513 levels deep;
@@ -53,7 +54,11 @@ pub fn diff(alloc: Global, old: &JsonValue, new: &JsonValue) -> Result<JsonValue
 const LONGEST_PATH: usize = 512;
 
 /// In objects with more entries each value is a small part, and is first compared as a whole.
-const FEW: usize = 16;
+const SMALL_OBJECT: usize = 16;
+
+/// How many elements or entries `apply` may move for the removals from one container, or the insertions
+/// into it: 2 to the power of 24. If it would move more, the container is replaced as a whole.
+const MOST_MOVED: usize = 16_777_216;
 
 /// The operations so far, and the path of the values that are compared.
 #[derive(Drop)]
@@ -65,8 +70,8 @@ struct Changes {
 
 impl Changes {
     /// Adds the operations that turn the value at the path into the new one. Elements of arrays, and
-    /// members of objects of more than `FEW`, are compared as a whole first, but only once: not if they
-    /// are parts of values that were compared.
+    /// members of objects of more than `SMALL_OBJECT`, are compared as a whole first, but only once:
+    /// not if they are parts of values that were compared.
     #[cycle(diff)]
     fn value(&mut self, old: &JsonValue, new: &JsonValue, compared: bool) -> Result<()>
         ensures ok { OnOk result (AddsChanges (string_bytes self.old.path) (view old.now)
@@ -74,7 +79,7 @@ impl Changes {
         ensures path { OnOk result (string_bytes self.new.path ≡ string_bytes self.old.path) }
         ensures memory { IsOkUnless result Error.OutOfMemory }
     {
-        if self.path.len() > LONGEST_PATH {
+        if self.path.len() > LONGEST_PATH || moves_much(old, new) {
             return self.whole(old, new);
         }
         match (old, new) {
@@ -144,7 +149,7 @@ impl Changes {
         ensures memory { IsOkUnless result Error.OutOfMemory }
     {
         let (old, new) = (look(from, at, key), look(to, at, key));
-        let compares = !compared && from.len() > FEW;
+        let compares = !compared && from.len() > SMALL_OBJECT;
         if let (Some(old), Some(new)) = (old, new) {
             if (compares || is_primitive(new)) && old == new {
                 return Ok(());
@@ -298,6 +303,51 @@ impl Changes {
         self.operations.push(operation)?;
         Ok(())
     }
+}
+
+/// Whether a patch from one value to the other that changes its parts would be slow to apply: each
+/// removal and each insertion moves what stands behind. Only the form of the patch depends on it.
+fn moves_much(old: &JsonValue, new: &JsonValue) -> bool {
+    match (old, new) {
+        (JsonValue::Object(from), JsonValue::Object(to)) => members_move_much(from, to),
+        (JsonValue::Array(from), JsonValue::Array(to)) => elements_move_much(from, to),
+        _ => false,
+    }
+}
+
+/// The same of the entries of objects: only a removal moves any, and goes over all. Ends as soon as
+/// enough keys are found that stay; those that both objects have are mostly in one order.
+fn members_move_much(from: &Object, to: &Object) -> bool {
+    let all = from.len();
+    let mut removed = all;
+    for key in from.keys() {
+        if !is_much(removed, all) {
+            return false;
+        }
+        if has(to, all.wrapping_sub(removed), key) {
+            removed = removed.wrapping_sub(1);
+        }
+    }
+    is_much(removed, all)
+}
+
+/// The same of the elements of arrays: behind those that are removed or inserted are the equal ones at the
+/// end, and behind one that is removed those that will be, too.
+fn elements_move_much(from: &[JsonValue], to: &[JsonValue]) -> bool {
+    let count = from.len().abs_diff(to.len());
+    if !is_much(count, from.len()) {
+        return false;
+    }
+    let (_start, kept) = common(from, to);
+    is_much(
+        count,
+        from.len().saturating_sub(to.len()).saturating_add(kept),
+    )
+}
+
+/// Whether so many removals or insertions, each of which moves so many elements or entries, move too many.
+fn is_much(count: usize, moved: usize) -> bool {
+    count.saturating_mul(moved) > MOST_MOVED
 }
 
 /// The value of a key, which is compared with the key at an index before it is looked up: objects
