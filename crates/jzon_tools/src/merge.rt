@@ -24,7 +24,7 @@ use jzon::{Error, JsonValue, Result};
 use std::alloc::Global;
 
 /// Up to how many members are removed one by one: a pass over all costs about as much.
-const FEW: usize = 16;
+const REMOVED_SINGLY: usize = 16;
 
 /// Applies a merge patch (RFC 7396): an entry of the patch that is null removes the target's, any
 /// other is put into it, and objects are merged at every depth. A patch that is no object replaces
@@ -126,9 +126,9 @@ fn remove_nulls(object: &mut Object, members: &Object, drops_nulls: bool)
     );
 }
 
-/// Whether a patch has more than `FEW` nulls. Only the time of a merge depends on it.
+/// Whether a patch has more than `REMOVED_SINGLY` nulls. Only the time of a merge depends on it.
 fn has_many_nulls(members: &Object) -> bool {
-    members.values().filter(|value| value.is_null()).count() > FEW
+    members.values().filter(|value| value.is_null()).count() > REMOVED_SINGLY
 }
 
 /// Whether a patch has null for the key.
