@@ -1,6 +1,8 @@
 //! Tests of `canonical`.
 
-use crate::common::{Tested, Tester, expect, expect_dump, expect_eq};
+use crate::common::{
+    Tested, Tester, expect, expect_dump, expect_eq, expect_message, expect_raised,
+};
 use jzon::number::NAN;
 use jzon::short::Short;
 use jzon::{Error as TextError, JsonValue, parse};
@@ -8,7 +10,7 @@ use jzon_pointer::error::{Error, What};
 use jzon_test_support::{RUNS_MAX, Refusals, keys_by_hash, object_text, rows};
 use jzon_tools::canonical::{canonical_text, of_text, sort_keys, sorted};
 use std::alloc::Global;
-use std::io;
+use std::io::ErrorKind;
 use std::test::Fail;
 
 /// Texts of equal values, and after them the canonical text of each.
@@ -152,13 +154,14 @@ fn nan_has_no_text(rt: HostRuntime) -> Tested {
     }
     expect(&rt, "memory", !Error::MEMORY.is_not_a_number());
     let error = Error::new(rt.alloc(), What::NotANumber);
-    let text = format!(in rt.alloc(); "{error}")?;
-    expect_eq(&rt, "Display", text.as_str(), "not a number");
-    let raised = io::Error::from(error);
-    let message = format!(in rt.alloc(); "{raised}")?;
-    expect_eq(&rt, "io::Error", message.as_str(), "not a number");
-    expect_eq(&rt, "its kind", raised.kind(), io::ErrorKind::InvalidData);
-    Ok(())
+    expect_message(&rt, "Display", &error, "not a number")?;
+    expect_raised(
+        &rt,
+        "io::Error",
+        error,
+        ErrorKind::InvalidData,
+        "not a number",
+    )
 }
 
 /// A text, and the text with sorted keys.

@@ -1,6 +1,8 @@
-//! Tests of `decode`.
+//! Tests of `decode`. To prove a test of a table of 24 rows takes 2 seconds, of one of 48 rows 6.
 
-use crate::common::{Tested, Tester, expect, expect_eq};
+use crate::common::{
+    Tested, Tester, expect, expect_eq, expect_message, expect_raised, expect_refused,
+};
 use jzon::number::Number;
 use jzon::{JsonValue, Reading};
 use jzon_test_support::{RUNS_MAX, Refusals, joined, rows};
@@ -135,7 +137,7 @@ impl FromJson for Sample {
 /// A text, what it is read as, and the compact text of what was read, or the error's message. 19 of
 /// the types are converted into a value and read once more in between; of a `Sample` the parts are
 /// listed.
-const READ: &[(&str, As, &str)] = rows! {
+const UNSIGNED: &[(&str, As, &str)] = rows! {
     ("0", As::U8, "0")
     ("255", As::U8, "255")
     ("256", As::U8, "expected an integer from 0 to 255, found 256")
@@ -150,9 +152,6 @@ const READ: &[(&str, As, &str)] = rows! {
     ("1e20", As::U64, "expected an integer from 0 to 18446744073709551615, found 1e20")
     ("3e2", As::U8, "expected an integer from 0 to 255, found 300")
     ("1.5", As::U8, "expected an integer from 0 to 255, found 1.5")
-    ("-128.0", As::I8, "-128")
-    ("-1e2", As::I16, "-100")
-    ("-0", As::I64, "0")
     ("65535", As::U16, "65535")
     ("65536", As::U16, "expected an integer from 0 to 65535, found 65536")
     ("4294967295", As::U32, "4294967295")
@@ -161,6 +160,17 @@ const READ: &[(&str, As, &str)] = rows! {
     ("-1", As::U64, "expected an integer from 0 to 18446744073709551615, found -1")
     ("18446744073709551615", As::Usize, "18446744073709551615")
     ("-1", As::Usize, "expected an integer from 0 to 18446744073709551615, found -1")
+    (r#""0123456789012345678901234567890123456789""#, As::U8, r#"expected an integer from 0 to 255, found "0123456789012345678901234567890123456789""#)
+    (r#""01234567890123456789012345678901234567890""#, As::U8, "expected an integer from 0 to 255, found a string of 41 characters")
+    ("18446744073709551616", As::U64, "Number is not exact at (1:20)")
+    ("\u{1b}", As::U8, "Unexpected character: \\u001b at (1:1)")
+};
+
+/// As `UNSIGNED`, read as signed integers.
+const SIGNED: &[(&str, As, &str)] = rows! {
+    ("-128.0", As::I8, "-128")
+    ("-1e2", As::I16, "-100")
+    ("-0", As::I64, "0")
     ("-128", As::I8, "-128")
     ("127", As::I8, "127")
     ("-129", As::I8, "expected an integer from -128 to 127, found -129")
@@ -179,6 +189,10 @@ const READ: &[(&str, As, &str)] = rows! {
     ("9223372036854775808", As::I64, "expected an integer from -9223372036854775808 to 9223372036854775807, found 9223372036854775808")
     ("-9223372036854775808", As::Isize, "-9223372036854775808")
     ("9223372036854775808", As::Isize, "expected an integer from -9223372036854775808 to 9223372036854775807, found 9223372036854775808")
+};
+
+/// As `UNSIGNED`, read as other types without parts.
+const SCALARS: &[(&str, As, &str)] = rows! {
     ("true", As::Truth, "true")
     ("false", As::Truth, "false")
     ("0", As::Truth, "expected true or false, found 0")
@@ -200,6 +214,13 @@ const READ: &[(&str, As, &str)] = rows! {
     ("null", As::Maybe, "null")
     ("9", As::Maybe, "9")
     ("65536", As::Maybe, "expected an integer from 0 to 65535, found 65536")
+    (r#""éééééééééééééééééééééééééééééééééééééééé""#, As::Truth, r#"expected true or false, found "éééééééééééééééééééééééééééééééééééééééé""#)
+    (r#""\u0000\u001f\u007f\u0080\u009f~é\"\\\n\r\t/""#, As::Truth, r#"expected true or false, found "\u0000\u001f\u007f\u0080\u009f~é\"\\\n\r\t/""#)
+    ("\"\u{ad}\u{202e}\u{2028}\u{200b}\u{feff}é\"", As::Truth, r#"expected true or false, found "\u00ad\u202e\u2028\u200b\ufeffé""#)
+};
+
+/// As `UNSIGNED`, read as types with parts.
+const CONTAINERS: &[(&str, As, &str)] = rows! {
     ("[]", As::Lists, "[]")
     ("[[1,2],[],[3]]", As::Lists, "[[1,2],[],[3]]")
     ("5", As::Lists, "expected an array, found 5")
@@ -229,10 +250,11 @@ const READ: &[(&str, As, &str)] = rows! {
     ("{}", As::Flags, "{}")
     ("[1,2]", As::Flags, "expected an object, found an array of 2 elements")
     (r#"{"a":{"b":1,"c":2}}"#, As::Flags, "/a: expected true or false, found an object of 2 entries")
-    (r#""0123456789012345678901234567890123456789""#, As::U8, r#"expected an integer from 0 to 255, found "0123456789012345678901234567890123456789""#)
-    (r#""01234567890123456789012345678901234567890""#, As::U8, "expected an integer from 0 to 255, found a string of 41 characters")
-    (r#""éééééééééééééééééééééééééééééééééééééééé""#, As::Truth, r#"expected true or false, found "éééééééééééééééééééééééééééééééééééééééé""#)
-    (r#""\u0000\u001f\u007f\u0080\u009f~é\"\\\n\r\t/""#, As::Truth, r#"expected true or false, found "\u0000\u001f\u007f\u0080\u009f~é\"\\\n\r\t/""#)
+    ("[1,", As::Lists, "Unexpected end of JSON at (1:4)")
+};
+
+/// As `UNSIGNED`, read as structs.
+const STRUCTS: &[(&str, As, &str)] = rows! {
     (r#"{"name":"a","lists":[],"price":1}"#, As::Sample, "a 7 none 0 10 0")
     (r#"{"name":"a","small":null,"cents":null,"lists":[],"price":1,"a/b~c":null}"#, As::Sample, "a 7 none 0 10 0")
     (r#"{"name":"b","small":1,"cents":19.9,"lists":[[1],[]],"price":-0.5,"a/b~c":{"x":80}}"#, As::Sample, "b 1 1990 2 -5 1")
@@ -259,11 +281,7 @@ const READ: &[(&str, As, &str)] = rows! {
     (r#"{"name":"a","lists":[],"price":0.25}"#, As::Sample, "/price: expected a number with at most 1 digit after the point, found 0.25")
     (r#"{"name":"a","lists":[],"price":1,"a/b~c":{"~/x":[1]}}"#, As::Sample, "/a~1b~0c/~0~1x: expected an integer from 0 to 65535, found an array of 1 element")
     (r#"{"name":"a","name":"b"}"#, As::Sample, "Duplicate key at (1:13)")
-    ("18446744073709551616", As::U64, "Number is not exact at (1:20)")
-    ("[1,", As::Lists, "Unexpected end of JSON at (1:4)")
     ("{\"name\":\"a\n2026\"}", As::Sample, "Unexpected character: \\n at (1:11)")
-    ("\u{1b}", As::U8, "Unexpected character: \\u001b at (1:1)")
-    ("\"\u{ad}\u{202e}\u{2028}\u{200b}\u{feff}é\"", As::Truth, r#"expected true or false, found "\u00ad\u202e\u2028\u200b\ufeffé""#)
 };
 
 /// What is left of a text after it was read, converted, read and converted again.
@@ -333,17 +351,53 @@ fn printed_as(alloc: Global, text: &str, kind: As) -> Result<String, Error> {
     }
 }
 
-#[test]
-fn reads_and_refuses(rt: HostRuntime) -> Tested {
-    let alloc = rt.alloc();
-    for (text, kind, want) in READ {
-        let found = match printed(alloc, text, *kind) {
-            Ok(found) => found,
-            Err(error) => format!(in alloc; "{error}")?,
-        };
-        expect_eq(&rt, text, found.as_str(), *want);
+/// The result of a row is this text, or its error has this message.
+fn expect_printed(
+    rt: &impl Tester,
+    row: &str,
+    outcome: Result<String, Error>,
+    want: &str,
+) -> Tested {
+    match outcome {
+        Ok(found) => {
+            expect_eq(rt, row, found.as_str(), want);
+            Ok(())
+        }
+        Err(error) => expect_message(rt, row, &error, want),
+    }
+}
+
+/// Each row is read, or refused.
+fn expect_each(rt: &impl Tester, rows: &[(&str, As, &str)]) -> Tested {
+    for (text, kind, want) in rows {
+        expect_printed(rt, text, printed(rt.alloc(), text, *kind), want)?;
     }
     Ok(())
+}
+
+#[test]
+fn reads_unsigned(rt: HostRuntime) -> Tested {
+    expect_each(&rt, UNSIGNED)
+}
+
+#[test]
+fn reads_signed(rt: HostRuntime) -> Tested {
+    expect_each(&rt, SIGNED)
+}
+
+#[test]
+fn reads_scalars(rt: HostRuntime) -> Tested {
+    expect_each(&rt, SCALARS)
+}
+
+#[test]
+fn reads_containers(rt: HostRuntime) -> Tested {
+    expect_each(&rt, CONTAINERS)
+}
+
+#[test]
+fn reads_structs(rt: HostRuntime) -> Tested {
+    expect_each(&rt, STRUCTS)
 }
 
 /// A text that isn't read, and the message without the value that is there.
@@ -363,15 +417,10 @@ const HIDDEN: &[(&str, As, &str)] = rows! {
 
 #[test]
 fn hides_values(rt: HostRuntime) -> Tested {
-    let alloc = rt.alloc();
     for (text, kind, want) in HIDDEN {
-        match printed(alloc, text, *kind) {
+        match printed(rt.alloc(), text, *kind) {
             Ok(_found) => expect(&rt, text, false),
-            Err(error) => {
-                let error = error.without_value();
-                let found = format!(in alloc; "{error}")?;
-                expect_eq(&rt, text, found.as_str(), *want);
-            }
+            Err(error) => expect_message(&rt, text, &error.without_value(), want)?,
         }
     }
     Ok(())
@@ -387,14 +436,8 @@ fn cuts_long_pointers(rt: HostRuntime) -> Tested {
         alloc,
         &[("/", 1), ("a", 99), ("..", 1), ("b", 100), (known, 1)],
     )?;
-    match decode::from_text::<Sample>(alloc, text.as_str()) {
-        Ok(_read) => expect(&rt, known, false),
-        Err(error) => {
-            let found = format!(in alloc; "{error}")?;
-            expect_eq(&rt, known, found.as_str(), want.as_str());
-        }
-    }
-    Ok(())
+    let read = decode::from_text::<Sample>(alloc, text.as_str());
+    expect_refused(&rt, known, read, want.as_str())
 }
 
 #[test]
@@ -434,13 +477,8 @@ fn usual(alloc: Global, text: &str) -> Result<String, Error> {
 
 #[test]
 fn reads_by_the_given_reading(rt: HostRuntime) -> Tested {
-    let alloc = rt.alloc();
     for (text, want) in USUAL {
-        let found = match usual(alloc, text) {
-            Ok(found) => found,
-            Err(error) => format!(in alloc; "{error}")?,
-        };
-        expect_eq(&rt, text, found.as_str(), *want);
+        expect_printed(&rt, text, usual(rt.alloc(), text), want)?;
     }
     Ok(())
 }
@@ -460,16 +498,10 @@ const RAISED: &[(&str, As, ErrorKind, &str)] = rows! {
 
 #[test]
 fn raises_io_errors(rt: HostRuntime) -> Tested {
-    let alloc = rt.alloc();
     for (text, kind, io_kind, message) in RAISED {
-        match printed(alloc, text, *kind) {
+        match printed(rt.alloc(), text, *kind) {
             Ok(_found) => expect(&rt, text, false),
-            Err(error) => {
-                let raised = io::Error::from(error);
-                expect_eq(&rt, text, raised.kind(), *io_kind);
-                let found = format!(in alloc; "{raised}")?;
-                expect_eq(&rt, text, found.as_str(), *message);
-            }
+            Err(error) => expect_raised(&rt, text, error, *io_kind, message)?,
         }
     }
     let raised = io::Error::from(Error::MEMORY);

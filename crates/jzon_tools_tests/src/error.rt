@@ -4,10 +4,11 @@ use crate::common::{Tested, Tester, expect, expect_eq};
 use jzon::{Error as TextError, Place, Reading};
 use jzon_pointer::error::{Cause, Error, Expected, Found, Member, What};
 use jzon_pointer::{PointerError, Reason};
+use std::alloc::{AllocError, Global};
 use std::io;
 
 /// The message, and what `Debug` prints.
-fn expect_text(rt: &impl Tester, error: &Error, text: &str) -> Result<(), std::alloc::AllocError> {
+fn expect_text(rt: &impl Tester, error: &Error, text: &str) -> Result<(), AllocError> {
     let shown = format!(in rt.alloc(); "{error}")?;
     expect_eq(rt, text, shown.as_str(), text);
     let debug = format!(in rt.alloc(); "{error:?}")?;
@@ -15,47 +16,48 @@ fn expect_text(rt: &impl Tester, error: &Error, text: &str) -> Result<(), std::a
     Ok(())
 }
 
-#[test]
-fn shows_each_part(rt: HostRuntime) -> Tested {
-    let alloc = rt.alloc();
+/// An error with a pointer.
+fn wrong(alloc: Global) -> Result<Error, AllocError> {
     let found = Found::String(String::from_str(alloc, "80")?);
     let expected = Expected::U16;
+    let error = Error::new(alloc, What::Wrong { expected, found });
+    Ok(
+        error
+            .below_key(alloc, "port")
+            .below_index(alloc, 1)
+            .below_key(alloc, "a/b~"),
+    )
+}
+
+#[test]
+fn shows_each_part(rt: HostRuntime) -> Tested {
+    let error = wrong(rt.alloc())?;
+    let message = "/a~1b~0/1/port: expected an integer from 0 to 65535, found \"80\"";
+    expect_text(&rt, &error, message)?;
+    expect_eq(&rt, "pointer", error.pointer(), "/a~1b~0/1/port");
+    let words = format!(in rt.alloc(); "{}", error.words())?;
+    let want = "expected an integer from 0 to 65535, found \"80\"";
+    expect_eq(&rt, "words", words.as_str(), want);
+    let copy = error.clone()?;
+    expect(&rt, "clone", copy == error);
+    Ok(())
+}
+
+#[test]
+fn adds_parts(rt: HostRuntime) -> Tested {
     let place = Place {
         offset: 40,
         line: 4,
         column: 14,
     };
-    let error = Error::new(alloc, What::Wrong { expected, found });
-    let error = error
-        .below_key(alloc, "port")
-        .below_index(alloc, 1)
-        .below_key(alloc, "a/b~");
-    expect_text(
-        &rt,
-        &error,
-        "/a~1b~0/1/port: expected an integer from 0 to 65535, found \"80\"",
-    )?;
-    expect_eq(&rt, "pointer", error.pointer(), "/a~1b~0/1/port");
-    let words = format!(in alloc; "{}", error.words())?;
-    expect_eq(
-        &rt,
-        "words",
-        words.as_str(),
-        "expected an integer from 0 to 65535, found \"80\"",
-    );
-    let copy = error.clone()?;
-    expect(&rt, "clone", copy == error);
-    let hidden = copy
+    let hidden = wrong(rt.alloc())?
         .without_value()
         .at_place(Some(place))
         .in_operation(3, None);
-    expect(&rt, "differs", hidden != error);
-    expect_text(
-        &rt,
-        &hidden,
-        "operation 3: /a~1b~0/1/port: expected an integer from 0 to 65535, found a string at (4:14)",
-    )?;
-    Ok(())
+    expect(&rt, "differs", hidden != wrong(rt.alloc())?);
+    let message =
+        "operation 3: /a~1b~0/1/port: expected an integer from 0 to 65535, found a string at (4:14)";
+    Ok(expect_text(&rt, &hidden, message)?)
 }
 
 #[test]
@@ -111,6 +113,14 @@ const WORDS: &[(&str, &str)] = &[
     (
         "\u{e0000}\u{e0100}\u{e0fff}",
         "\\udb40\\udc00\\udb40\\udd00\\udb43\\udfff",
+    ),
+    (
+        "\u{13430}\u{1343f}\u{1bca0}\u{1d173}\u{1d17a}",
+        "\\ud80d\\udc30\\ud80d\\udc3f\\ud82f\\udca0\\ud834\\udd73\\ud834\\udd7a",
+    ),
+    (
+        "\u{1342f}\u{13440}\u{1bc9f}\u{1bca4}\u{1d172}\u{1d17b}",
+        "\u{1342f}\u{13440}\u{1bc9f}\u{1bca4}\u{1d172}\u{1d17b}",
     ),
     (
         "\u{115e}\u{1161}\u{2801}\u{3165}\u{fe10}\u{fffd}",

@@ -1,6 +1,6 @@
 //! Tests of `patch`.
 
-use crate::common::{Tested, Tester, expect, expect_dump, expect_eq};
+use crate::common::{Tested, Tester, expect, expect_dump, expect_eq, expect_refused};
 use Why::{Lost, Undone};
 use jzon::JsonValue;
 use jzon_pointer::PointerError::{self, Missing, NoSlash, WholeValue};
@@ -10,6 +10,7 @@ use jzon_pointer::error::{Cause, Error, Member, What};
 use jzon_test_support::{RUNS_MAX, Refusals, joined, rows};
 use jzon_tools::edit;
 use jzon_tools::patch::{self, Limits};
+use std::alloc::Global;
 use std::test::Fail;
 
 /// A value, a patch, and the value after it. First the examples of RFC 6902, appendix A.
@@ -263,13 +264,8 @@ fn shows_errors(rt: HostRuntime) -> Tested {
     for (before, text, words) in WORDS {
         let mut value = jzon::parse(rt.alloc(), before)?;
         let patch = jzon::parse(rt.alloc(), text)?;
-        match patch::apply_within(rt.alloc(), &mut value, &patch, &limits) {
-            Ok(()) => expect(&rt, words, false),
-            Err(error) => {
-                let shown = format!(in rt.alloc(); "{error}")?;
-                expect_eq(&rt, words, shown.as_str(), *words);
-            }
-        }
+        let outcome = patch::apply_within(rt.alloc(), &mut value, &patch, &limits);
+        expect_refused(&rt, words, outcome, words)?;
     }
     Ok(())
 }
@@ -418,6 +414,53 @@ fn replaces_at_long_paths(rt: HostRuntime) -> Tested {
 const LONG: &[(usize, &str)] = rows! {
     (511, "/b")
     (512, "")
+};
+
+/// Where to apply its removals or insertions would move more than 2^24 elements or entries, an array or
+/// an object is replaced as a whole.
+#[test]
+fn replaces_where_much_would_move(rt: HostRuntime) -> Tested {
+    for (name, has_keys, before, after, operations) in MOVED {
+        let mut value = numbers(rt.alloc(), *has_keys, *before)?;
+        let wanted = numbers(rt.alloc(), *has_keys, *after)?;
+        let patch = patch::diff(rt.alloc(), &value, &wanted)?;
+        expect_eq(&rt, name, &patch.len(), operations);
+        expect(
+            &rt,
+            name,
+            patch::apply(rt.alloc(), &mut value, &patch).is_ok(),
+        );
+        expect(&rt, name, value == wanted);
+    }
+    Ok(())
+}
+
+/// An array, or an object, of the numbers from one to before another.
+fn numbers(alloc: Global, has_keys: bool, range: (usize, usize)) -> jzon::Result<JsonValue> {
+    let mut value = if has_keys {
+        JsonValue::new_object(alloc)
+    } else {
+        JsonValue::new_array(alloc)
+    };
+    for number in range.0..range.1 {
+        if has_keys {
+            value.insert(alloc, format!(in alloc; "{number}")?.as_str(), number)?;
+        } else {
+            value.push(alloc, number)?;
+        }
+    }
+    Ok(value)
+}
+
+/// What is tried, whether it is of objects, the numbers before and after, and how many operations there are.
+const MOVED: &[(&str, bool, (usize, usize), (usize, usize), usize)] = rows! {
+    ("4095 of 4097 elements removed", false, (0, 4097), (4095, 4097), 4095)
+    ("4096 of 4097 elements removed", false, (0, 4097), (4096, 4097), 1)
+    ("4096 elements inserted before 4096", false, (4096, 8192), (0, 8192), 4096)
+    ("4097 elements inserted before 4096", false, (4097, 8193), (0, 8193), 1)
+    ("9000 elements appended to 2000", false, (0, 2000), (0, 11000), 9000)
+    ("4095 of 4097 entries removed", true, (0, 4097), (4095, 4097), 4095)
+    ("4096 of 4097 entries removed", true, (0, 4097), (4096, 4097), 1)
 };
 
 /// The containers around a new value count, and an empty container doesn't.

@@ -1,6 +1,8 @@
 //! Tests of `pointer`.
 
-use crate::common::{Tested, Tester, expect, expect_dump, expect_eq};
+use crate::common::{
+    Tested, Tester, expect, expect_dump, expect_eq, expect_message, expect_raised,
+};
 use Change::{Insert, Remove, Replace, Update};
 use jzon::JsonValue;
 use jzon_pointer::PointerError::{Missing, NoSlash, WholeValue};
@@ -10,7 +12,7 @@ use jzon_pointer::shown::ShownPointer;
 use jzon_pointer::{PointerError, Primitive, Reason};
 use jzon_test_support::{RUNS_MAX, Refusals, joined, rows};
 use jzon_tools::edit;
-use std::io::{self, ErrorKind};
+use std::io::ErrorKind;
 use std::test::Fail;
 
 /// The text of RFC 6901, section 5.
@@ -248,6 +250,7 @@ const POINTED: &[(&str, &str, &str)] = rows! {
     ("1", "a", "a: a pointer begins with /")
     ("1", "\n", "\\n: a pointer begins with /")
     ("{}", "/a\n\u{1b}[2J\u{202e}", "/a\\n\\u001b[2J\\u202e: the whole value has no key \"a\\n\\u001b[2J\\u202e\"")
+    ("1", "\u{1b}abcdefghijklmnopqrstuvwxyz0123456789", "\\u001babcdefghijklmnopqrstuvwxyz0123456789: a pointer begins with /")
 };
 
 #[test]
@@ -276,58 +279,61 @@ const LOST: &[(&str, PointerError, &str)] = rows! {
 
 /// Its words, also as those of an `io::Error`, and the kind.
 fn expect_words(rt: &impl Tester, error: Error, words: &str) -> Tested {
-    let text = format!(in rt.alloc(); "{error}")?;
-    expect_eq(rt, words, text.as_str(), words);
+    expect_message(rt, words, &error, words)?;
     let kind = match error.is_memory() {
         true => ErrorKind::OutOfMemory,
         false => ErrorKind::InvalidData,
     };
-    let raised = io::Error::from(error);
-    let message = format!(in rt.alloc(); "{raised}")?;
-    expect_eq(rt, words, message.as_str(), words);
-    expect_eq(rt, words, raised.kind(), kind);
-    Ok(())
+    expect_raised(rt, words, error, kind, words)
 }
 
-/// A message has 40 characters of a token, and of a pointer at most 200 bytes: 50 characters of two
-/// bytes at both ends.
+/// In the value of this text the pointer names nothing, with this message.
+fn expect_nothing(rt: &impl Tester, text: &str, path: &str, words: &str) -> Tested {
+    let value = jzon::parse(rt.alloc(), text)?;
+    match jzon_pointer::find(rt.alloc(), &value, path) {
+        Ok(_found) => Err("a value".into()),
+        Err(error) => expect_message(rt, path, &error, words),
+    }
+}
+
+/// A message has of a pointer at most 200 bytes: 50 characters of two bytes at both ends.
 #[test]
-fn cuts_long_tokens_and_pointers(rt: HostRuntime) -> Tested {
+fn cuts_long_pointers(rt: HostRuntime) -> Tested {
     let alloc = rt.alloc();
-    let value = JsonValue::Null;
-    let path = joined(
-        alloc,
-        &[("/", 1), ("é", 150), ("b", 150), ("/", 1), ("c", 41)],
-    )?;
+    let parts = &[("/", 1), ("é", 150), ("b", 150), ("/", 1), ("c", 41)];
+    let path = joined(alloc, parts)?;
+    let parts = &[
+        ("/", 1),
+        ("é", 49),
+        ("..", 1),
+        ("b", 8),
+        ("/", 1),
+        ("c", 41),
+    ];
+    let cut = joined(alloc, parts)?;
     let path = path.as_str();
     let shown = format!(in alloc; "{}", ShownPointer(path))?;
-    let want = joined(
-        alloc,
-        &[
-            ("/", 1),
-            ("é", 49),
-            ("..", 1),
-            ("b", 8),
-            ("/", 1),
-            ("c", 41),
-        ],
-    )?;
-    expect_eq(&rt, path, shown.as_str(), want.as_str());
-    if let Err(error) = jzon_pointer::find(alloc, &value, path) {
-        let message = format!(in alloc; "{error}")?;
-        let want = format!(in alloc; "{want}: the whole value is null and has no members")?;
-        expect_eq(&rt, path, message.as_str(), want.as_str());
-    }
-    let value = jzon::parse(alloc, "{}")?;
-    let path = joined(alloc, &[("/", 1), ("c", 41)])?;
-    let path = path.as_str();
-    if let Err(error) = jzon_pointer::find(alloc, &value, path) {
-        let message = format!(in alloc; "{error}")?;
-        let token = joined(alloc, &[("c", 40), ("..", 1)])?;
-        let want = format!(in alloc; "{path}: the whole value has no key \"{token}\"")?;
-        expect_eq(&rt, path, message.as_str(), want.as_str());
-    }
-    Ok(())
+    expect_eq(&rt, "shown", shown.as_str(), cut.as_str());
+    let parts = &[
+        (cut.as_str(), 1),
+        (": the whole value is null and has no members", 1),
+    ];
+    let words = joined(alloc, parts)?;
+    expect_nothing(&rt, "null", path, words.as_str())
+}
+
+/// A message has 40 characters of a token.
+#[test]
+fn cuts_long_tokens(rt: HostRuntime) -> Tested {
+    let path = joined(rt.alloc(), &[("/", 1), ("c", 41)])?;
+    let parts = &[
+        (path.as_str(), 1),
+        (": the whole value has no key \"", 1),
+        ("c", 40),
+        ("..\"", 1),
+    ];
+    let words = joined(rt.alloc(), parts)?;
+    expect_nothing(&rt, "{}", path.as_str(), words.as_str())
 }
 
 /// Among many keys, those that have a `~` or a `/`, also long ones, are found; none by a bad escape.
