@@ -1,59 +1,81 @@
 //! What is wrong at a place of a value that is read.
 
-use crate::fault::{At, Fault, Path, found_in, found_text};
-use crate::tree::{Asked, Container, Due, Frame, TreeFormat, case_bit};
+use crate::fault::Fault;
+use crate::tree::{Container, Due, Frame, TreeFormat, case_bit};
 use jzon::JsonValue;
-use jzon::number::Number;
-use jzon_pointer::error::{Expected, Found, What};
-use serde::{Case, Name, NameKind};
+use jzon_pointer::error::{Expected, Found, What, found_in, found_text};
+use serde::{Case, Format, Name, NameKind};
 use std::alloc::AllocError;
 use std::result::Result;
 
 impl<'v> TreeFormat<'v> {
+    /// The container around the innermost one.
+    pub(crate) fn around(&self) -> Option<&Frame<'v>> {
+        self.frames.get(self.place.frame.level.saturating_sub(1))
+    }
+
     /// The value that was begun last, or the container if none was.
-    fn last(&self) -> Option<&'v JsonValue> {
+    pub(crate) fn last(&self) -> Option<&'v JsonValue> {
         if self.place.frame.begun > 0 {
             return begun_last(&self.place.frame);
         }
-        begun_last(self.frames.get(self.place.frame.level.saturating_sub(1))?)
+        begun_last(self.around()?)
     }
 
-    /// Where the member is that a frame began last, or a key that is missing in it.
-    fn path_to(&self, innermost: Frame<'v>, key: Option<String>) -> Result<Path, AllocError> {
-        let mut path = Path::new(self.alloc, key);
+    /// The key that is due, or was read last, if its value isn't begun.
+    pub(crate) fn key_at_hand(&self) -> Option<&'v str> {
+        match self.place.due {
+            Due::Key(key, _) => Some(key),
+            Due::Value(_) => self.key,
+            Due::Nothing => None,
+        }
+    }
+
+    /// What is wrong with the member that a frame began last, or with its key, or which key is missing
+    /// in it.
+    #[cold]
+    #[inline(never)]
+    pub(crate) fn fault_to(
+        &self,
+        innermost: Frame<'v>,
+        is_of_key: bool,
+        missing: Option<String>,
+        what: What,
+    ) -> Fault {
+        let mut indexes = Vec::new(self.alloc);
         let mut frame = innermost;
         for _ in 0..self.frames.len() {
             if let Container::Whole(_) = frame.container {
                 break;
             }
-            if let Some(at) = frame.begun.checked_sub(1) {
-                path.indexes.push(at)?;
+            let at = frame.begun.checked_sub(1);
+            if at.is_some_and(|at| indexes.push(at).is_err()) {
+                return Fault::MEMORY;
             }
             match self.frames.get(frame.level.saturating_sub(1)) {
                 Some(outer) => frame = *outer,
                 None => break,
             }
         }
-        path.indexes.reverse();
-        Ok(path)
+        indexes.reverse();
+        Fault::new(self.alloc, what, indexes, missing, is_of_key)
     }
 
-    /// What is wrong there.
-    #[cold]
-    #[inline(never)]
-    fn fault_to(&self, frame: Frame<'v>, key: Option<String>, what: What, at: At) -> Fault {
-        self.path_to(frame, key).map_or(
+    /// What is wrong with the member that was begun last, or with its key.
+    pub(crate) fn fault(&self, is_of_key: bool, what: What) -> Fault {
+        self.fault_to(self.place.frame, is_of_key, None, what)
+    }
+
+    fn wrong(
+        &self,
+        is_of_key: bool,
+        expected: Expected,
+        found: Result<Found, AllocError>,
+    ) -> Fault {
+        found.map_or(
             Fault::MEMORY,
-            |path| Fault::new(self.alloc, path, what, at),
+            |found| self.fault(is_of_key, What::Wrong { expected, found }),
         )
-    }
-
-    pub(crate) fn fault(&self, what: What, at: At) -> Fault {
-        self.fault_to(self.place.frame, None, what, at)
-    }
-
-    fn wrong(&self, expected: Expected, found: Found, at: At) -> Fault {
-        self.fault(What::Wrong { expected, found }, at)
     }
 
     /// The error of the value that was read last, which isn't what is expected.
@@ -61,81 +83,19 @@ impl<'v> TreeFormat<'v> {
     #[inline(never)]
     pub(crate) fn expected(&self, expected: Expected) -> Fault {
         match self.last() {
-            Some(value) => found_in(self.alloc, value).map_or(
-                Fault::MEMORY,
-                |found| self.wrong(expected, found, At::Value),
-            ),
+            Some(value) => self.wrong(false, expected, found_in(self.alloc, value)),
             None => self.misused(),
         }
     }
 
-    /// As `expected`, of a key.
+    /// As `expected`, of the key at hand if there is one.
     #[cold]
     #[inline(never)]
-    pub(crate) fn wrong_key(&self, expected: &'static str, key: &str) -> Fault {
-        let expected = Expected::Other(expected);
-        found_text(self.alloc, key).map_or(
-            Fault::MEMORY,
-            |found| self.wrong(expected, found, At::Key),
-        )
-    }
-
-    /// The error of a number of which digits may have been cut.
-    #[cold]
-    pub(crate) fn cut(&self, number: Number) -> Fault {
-        let expected = Expected::Other("an integer");
-        let found = Found::Number(number);
-        self.fault(What::Cut { expected, found }, At::Value)
-    }
-
-    /// A number is too large for a float.
-    #[cold]
-    pub(crate) fn too_large(&self) -> Fault {
-        match (self.place.due, self.key) {
-            (Due::Value(_), Some(key)) => self.wrong_key("a number in a float's range", key),
-            _ => self.expected(Expected::Other("a number in a float's range")),
-        }
-    }
-
-    /// The error of a key or a value that was read, but is none of the type's. An integer that was
-    /// read is out of the type's range.
-    #[cold]
-    pub(crate) fn misfit(&self) -> Fault {
-        let words = match (self.place.due, self.key, self.last()) {
-            (Due::Value(_), Some(key), _) | (Due::Key(key, _), _, _) => {
-                return self.wrong_key("a key of its type", key);
-            }
-            (Due::Nothing, _, Some(JsonValue::Number(_))) => "an integer in the range of its type",
-            (Due::Value(_), _, _) if self.asked == Asked::Unit => "null",
-            (Due::Value(_), _, _) if self.asked == Asked::Forms => "one of the forms of its type",
-            _ => "a value of its type",
-        };
-        self.expected(Expected::Other(words))
-    }
-
-    /// A value that is no object. An enum asks first of which kind it is, as it takes a string too.
-    #[cold]
-    pub(crate) fn no_object(&self) -> Fault {
-        match self.last() {
-            Some(value) if self.asked == Asked::Kind && value.as_str().is_none() => {
-                self.expected(Expected::Other("a string or an object"))
-            }
-            _ => self.expected(Expected::Object),
-        }
-    }
-
-    /// An array that goes on after a tuple's last part, or ends too early or too late otherwise.
-    #[cold]
-    pub(crate) fn misses_length(&self) -> Fault {
-        let frame = self.place.frame;
-        let around = self.frames.get(frame.level.saturating_sub(1));
-        match (frame.container, self.place.due, around) {
-            (Container::Seq(items), Due::Value(_), Some(around)) => {
-                let expected = Expected::Exactly(frame.begun.saturating_sub(1));
-                let found = Found::Array(items.len());
-                self.fault_to(*around, None, What::Wrong { expected, found }, At::Value)
-            }
-            _ => self.expected(Expected::Other("an array of another length")),
+    pub(crate) fn unfit(&self, words: &'static str) -> Fault {
+        let expected = Expected::Other(words);
+        match self.key_at_hand() {
+            Some(key) => self.wrong(true, expected, found_text(self.alloc, key)),
+            None => self.expected(expected),
         }
     }
 
@@ -143,34 +103,19 @@ impl<'v> TreeFormat<'v> {
     #[cold]
     #[inline(never)]
     pub(crate) fn misused(&self) -> Fault {
-        self.said("the type's reader asks for what isn't there")
-    }
-
-    /// What a type's own reader says.
-    #[cold]
-    pub(crate) fn said(&self, words: &str) -> Fault {
-        String::from_str(self.alloc, words).map_or(
-            Fault::MEMORY,
-            |words| self.fault(What::Custom(words), At::Value),
-        )
-    }
-
-    /// The error of an object in which the field of this name is missing.
-    #[cold]
-    pub(crate) fn lacks(&self, name: &str) -> Fault {
-        self.missing_key(name).unwrap_or(Fault::MEMORY)
+        self.custom("the type's reader asks for what isn't there")
     }
 
     /// The error of the entry that the field `name` would be read from. Its key isn't known if the
     /// names are spelled in several ways, or if the struct was read from an array: then the field
     /// is named.
-    fn missing_key(&self, name: &str) -> Result<Fault, AllocError> {
+    pub(crate) fn missing_key(&self, name: &str) -> Result<Fault, AllocError> {
         let Some(key) = self.key_of(name)? else {
             let words = format!(in self.alloc; "the field {name} is missing")?;
-            return Ok(self.fault(What::Custom(words), At::Value));
+            return Ok(self.fault(false, What::Custom(words)));
         };
         let what = What::Missing(Expected::Value);
-        Ok(self.fault_to(self.place.frame, Some(key), what, At::Object))
+        Ok(self.fault_to(self.place.frame, false, Some(key), what))
     }
 
     /// How a field of the object that ended last is spelled in each case of its names, if that is
@@ -194,24 +139,17 @@ impl<'v> TreeFormat<'v> {
         Ok(key)
     }
 
-    /// Keeps the error that none of the variants' names is there. A type may have a variant for that.
+    /// Keeps the error that none of the variants' names is there, as a string or as a key. A type may
+    /// have a variant for that.
     #[cold]
     #[inline(never)]
-    pub(crate) fn note_variants(&mut self, names: &[Name<'_>], at: At) {
+    pub(crate) fn note_variants(&mut self, names: &[Name<'_>]) {
+        let is_of_key = !matches!(self.place.due, Due::Nothing);
         let mut words = String::new(self.alloc);
         self.unknown = Some(match push_names(&mut words, names) {
-            Ok(()) => self.fault(What::Custom(words), at),
+            Ok(()) => self.fault(is_of_key, What::Custom(words)),
             Err(_refused) => Fault::MEMORY,
         });
-    }
-
-    /// The error that `note_variants` kept, or that of a misfit if it kept none.
-    #[cold]
-    pub(crate) fn unknown_name(&self) -> Fault {
-        match &self.unknown {
-            Some(fault) => fault.copied(self.alloc).unwrap_or(Fault::MEMORY),
-            None => self.misfit(),
-        }
     }
 }
 

@@ -3,7 +3,7 @@
 
 ghost use Rattle.std.specs.Prelude.{◌≤◌, length, OnOk};
 
-use crate::fault::{At, Fault, Path};
+use crate::fault::Fault;
 use crate::number::number_of;
 use crate::wrappers::EXACT;
 use jzon::number::Number;
@@ -17,13 +17,17 @@ use std::result::Result;
 /// How many containers may be open: as many as a text that is read.
 pub(crate) const MAX_DEPTH: usize = 512;
 
+/// A value that has no parts and is no string.
+#[derive(Clone, Copy)]
+pub(crate) enum Scalar {
+    Null,
+    Boolean(bool),
+    Number(Number),
+}
+
 /// What is made of a value's parts, which come in the order of its text.
 pub(crate) trait Sink {
-    fn put_null(&mut self) -> Result<(), Fault>;
-
-    fn put_bool(&mut self, truth: bool) -> Result<(), Fault>;
-
-    fn put_number(&mut self, number: Number) -> Result<(), Fault>;
+    fn put(&mut self, scalar: Scalar) -> Result<(), Fault>;
 
     fn put_string(&mut self, text: &str) -> Result<(), Fault>;
 
@@ -61,7 +65,7 @@ struct Level {
 #[derive(Drop)]
 pub(crate) struct Events<S: Sink + Drop> {
     alloc: Global,
-    sink: S,
+    pub(crate) sink: S,
     around: Vec<Level>,
     level: Level,
     /// Room for a name in another case, and for a printed text.
@@ -91,19 +95,12 @@ impl<S: Sink + Drop> Events<S> {
         }
     }
 
-    /// What was made, if one whole value came.
-    pub(crate) fn finish(self) -> Result<S, Fault> {
-        let Events {
-            alloc,
-            sink,
-            around,
-            level,
-            ..
-        } = self;
-        if around.is_empty() && level.due == Due::Nothing {
-            return Ok(sink);
+    /// Fails unless one whole value came.
+    pub(crate) fn end(&self) -> Result<(), Fault> {
+        if self.around.is_empty() && self.level.due == Due::Nothing {
+            return Ok(());
         }
-        Err(unfit(alloc, "no whole value is written"))
+        Err(self.refused("no whole value is written"))
     }
 
     /// A value comes next that is no key.
@@ -133,15 +130,15 @@ impl<S: Sink + Drop> Events<S> {
     }
 
     #[inline(always)]
-    fn put_number(&mut self, number: Number) -> Result<(), Fault> {
+    fn put(&mut self, scalar: Scalar) -> Result<(), Fault> {
         self.begin_value()?;
-        self.sink.put_number(number)
+        self.sink.put(scalar)
     }
 
     /// A string, or a key.
     #[inline(always)]
-    fn put_text(&mut self, text: &str) -> Result<(), Fault> {
-        if self.at_key {
+    fn put_text(&mut self, text: &str, is_key: bool) -> Result<(), Fault> {
+        if is_key {
             return self.put_key(text);
         }
         self.begin_value()?;
@@ -152,45 +149,43 @@ impl<S: Sink + Drop> Events<S> {
     #[inline(always)]
     fn put_integer<T: Display>(&mut self, v: &T, number: Option<Number>) -> Result<(), Fault> {
         match number {
-            _ if self.at_key => self.put_printed(v),
-            Some(number) => self.put_number(number),
+            _ if self.at_key => self.collect_str(v),
+            Some(number) => self.put(Scalar::Number(number)),
             None => Err(self.refused("an integer of more than 64 bits")),
         }
     }
 
-    /// The decimal of a float's shortest text, or a key.
-    fn put_float(&mut self, text: &str) -> Result<(), Fault> {
-        if self.at_key {
-            return self.put_key(text);
-        }
+    /// The shortest decimal that is read back as the same float, or a key.
+    fn put_float<F: ryu::Float>(&mut self, v: F) -> Result<(), Fault> {
+        let mut buffer = ryu::Buffer::new();
+        let text = buffer.format(v);
         match number_of(text) {
-            Some(number) => self.put_number(number),
-            None => Err(self.refused("a float without a decimal")),
+            Some(_) if self.at_key => self.put_key(text),
+            Some(number) => self.put(Scalar::Number(number)),
+            None => Err(self.refused("a float that is no number")),
         }
-    }
-
-    /// A printed text, as a string or as a key.
-    fn put_printed<T: Display>(&mut self, printed: &T) -> Result<(), Fault> {
-        let mut room = std::mem::replace(&mut self.room, String::new(self.alloc));
-        room.clear();
-        let done = match write!(room, "{printed}") {
-            Ok(()) => self.put_text(room.as_str()),
-            Err(_refused) => Err(Fault::MEMORY),
-        };
-        self.room = room;
-        done
     }
 
     /// A name, as a key or as a string.
+    #[inline(always)]
     fn put_name(&mut self, kind: NameKind, name: &str, case: Case, key: bool) -> Result<(), Fault> {
+        if let Case::AsIs = case {
+            return self.put_text(name, key);
+        }
+        let mut room = self.cleared_room();
+        case.append(kind, name, &mut room)?;
+        self.put_room(room, key)
+    }
+
+    fn cleared_room(&mut self) -> String {
         let mut room = std::mem::replace(&mut self.room, String::new(self.alloc));
         room.clear();
-        case.append(kind, name, &mut room)?;
-        let done = if key {
-            self.put_key(room.as_str())
-        } else {
-            self.put_text(room.as_str())
-        };
+        room
+    }
+
+    /// The text in the room, which is kept for the next.
+    fn put_room(&mut self, room: String, is_key: bool) -> Result<(), Fault> {
+        let done = self.put_text(room.as_str(), is_key);
         self.room = room;
         done
     }
@@ -226,13 +221,13 @@ impl<S: Sink + Drop> Events<S> {
     #[cold]
     #[inline(never)]
     fn refused(&self, words: &'static str) -> Fault {
-        unfit(self.alloc, words)
+        self.fault(What::Said(words))
     }
-}
 
-#[cold]
-fn unfit(alloc: Global, words: &'static str) -> Fault {
-    Fault::new(alloc, Path::new(alloc, None), What::Said(words), At::Value)
+    /// What is wrong with the whole value.
+    fn fault(&self, what: What) -> Fault {
+        Fault::new(self.alloc, what, Vec::new(self.alloc), None, false)
+    }
 }
 
 impl<S: Sink + Drop> Serializer for Events<S> {
@@ -242,8 +237,7 @@ impl<S: Sink + Drop> Serializer for Events<S> {
         if self.at_key {
             return self.put_key(if v { "true" } else { "false" });
         }
-        self.begin_value()?;
-        self.sink.put_bool(v)
+        self.put(Scalar::Boolean(v))
     }
 
     fn i64(&mut self, v: i64) -> Result<(), Fault> {
@@ -266,41 +260,32 @@ impl<S: Sink + Drop> Serializer for Events<S> {
         self.put_integer(&v, u64::try_from(v).ok().map(Number::from))
     }
 
-    /// The shortest decimal that is read back as the same float.
     fn f32(&mut self, v: f32) -> Result<(), Fault> {
-        if !v.is_finite() {
-            return Err(self.refused("a float that is no number"));
-        }
-        let mut buffer = ryu::Buffer::new();
-        self.put_float(buffer.format_finite(v))
+        self.put_float(v)
     }
 
-    /// As `f32`. After the words of `Exact` it is the decimal itself.
+    /// After the words of `Exact` it is the decimal itself.
     fn f64(&mut self, v: f64) -> Result<(), Fault> {
-        if let Some(number) = self.exact.take() {
-            return self.put_integer(&number, Some(number));
+        match self.exact.take() {
+            Some(number) => self.put_integer(&number, Some(number)),
+            None => self.put_float(v),
         }
-        if !v.is_finite() {
-            return Err(self.refused("a float that is no number"));
-        }
-        let mut buffer = ryu::Buffer::new();
-        self.put_float(buffer.format_finite(v))
     }
 
     fn char(&mut self, v: char) -> Result<(), Fault> {
         let mut bytes = [0u8; 4];
-        self.put_text(v.encode_utf8(&mut bytes))
+        self.put_text(v.encode_utf8(&mut bytes), self.at_key)
     }
 
     fn str(&mut self, v: &str) -> Result<(), Fault> {
-        self.put_text(v)
+        self.put_text(v, self.at_key)
     }
 
     /// An array of numbers.
     fn bytes(&mut self, v: &[u8]) -> Result<(), Fault> {
         self.open(false)?;
         for byte in v {
-            self.put_number(Number::from(*byte))?;
+            self.put(Scalar::Number(Number::from(*byte)))?;
         }
         self.close(false)
     }
@@ -313,14 +298,10 @@ impl<S: Sink + Drop> Serializer for Events<S> {
             self.flattens = false;
             return Ok(());
         }
-        self.begin_value()?;
-        self.sink.put_null()
+        self.put(Scalar::Null)
     }
 
     fn str_cased(&mut self, name: &str, case: Case) -> Result<(), Fault> {
-        if let Case::AsIs = case {
-            return self.put_text(name);
-        }
         self.put_name(NameKind::Variant, name, case, self.at_key)
     }
 
@@ -328,7 +309,7 @@ impl<S: Sink + Drop> Serializer for Events<S> {
     fn begin_seq(&mut self, _len: Option<usize>) -> Result<(), Fault> {
         if let Some(number) = self.exact.take() {
             self.at_key = false;
-            return self.put_number(number);
+            return self.put(Scalar::Number(number));
         }
         self.open(false)
     }
@@ -358,16 +339,10 @@ impl<S: Sink + Drop> Serializer for Events<S> {
     }
 
     fn key_cased(&mut self, name: &str, case: Case) -> Result<(), Fault> {
-        if let Case::AsIs = case {
-            return self.put_key(name);
-        }
         self.put_name(NameKind::Field, name, case, true)
     }
 
     fn variant_key(&mut self, name: &str, case: Case) -> Result<(), Fault> {
-        if let Case::AsIs = case {
-            return self.put_key(name);
-        }
         self.put_name(NameKind::Variant, name, case, true)
     }
 
@@ -393,19 +368,16 @@ impl<S: Sink + Drop> Serializer for Events<S> {
             self.exact.set(number_of(digits));
             return Fault::MEMORY;
         }
-        let alloc = self.alloc;
-        match String::from_str(alloc, message) {
-            Ok(words) => Fault::new(
-                alloc,
-                Path::new(alloc, None),
-                What::Custom(words),
-                At::Value,
-            ),
-            Err(_refused) => Fault::MEMORY,
-        }
+        String::from_str(self.alloc, message).map_or(
+            Fault::MEMORY,
+            |words| self.fault(What::Custom(words)),
+        )
     }
 
-    fn collect_str<T: Display>(&mut self, value: &T) -> Result<(), Fault> {
-        self.put_printed(value)
+    /// A printed text, as a string or as a key.
+    fn collect_str<T: Display>(&mut self, printed: &T) -> Result<(), Fault> {
+        let mut room = self.cleared_room();
+        write!(room, "{printed}").map_err(|_refused| Fault::MEMORY)?;
+        self.put_room(room, self.at_key)
     }
 }

@@ -1,11 +1,11 @@
 //! The steps of a reader over a value.
 
-use crate::fault::{At, Fault};
-use crate::number::{may_be_cut, whole};
+use crate::fault::Fault;
+use crate::number::whole;
 use crate::tree::{Asked, Container, Due, Mark, TreeFormat};
 use jzon::JsonValue;
 use jzon::util::print_dec::number_text;
-use jzon_pointer::error::{Expected, What};
+use jzon_pointer::error::{Expected, Found, What, may_be_cut};
 use serde::{Format, Kind, Name, NameKind, find};
 use std::alloc::Global;
 use std::result::Result;
@@ -18,7 +18,11 @@ impl<'v> TreeFormat<'v> {
             return Err(self.expected(Expected::Other(expected)));
         };
         match whole(number) {
-            Some(_) if may_be_cut(number) => Err(self.cut(number)),
+            Some(_) if may_be_cut(number) => {
+                let expected = Expected::Other(SIGNED);
+                let found = Found::Number(number);
+                Err(self.fault(false, What::Cut { expected, found }))
+            }
             Some(integer) => {
                 self.pass();
                 Ok(integer)
@@ -38,27 +42,27 @@ impl<'v> TreeFormat<'v> {
     /// The integer of a key, if it spells one in the one way: no plus, and no zero before other
     /// digits. So two keys of an object aren't one of a map.
     fn integer_key<T: Drop>(
-        &self,
+        &mut self,
         key: &str,
         parsed: Option<T>,
         expected: &'static str,
     ) -> Result<T, Fault> {
+        self.asked = Asked::Integer;
         match parsed {
             Some(integer) if is_plain(key) => Ok(integer),
-            _ => Err(self.wrong_key(expected, key)),
+            None if is_integer(key) && (expected == SIGNED || !key.starts_with('-')) => {
+                Err(self.unfit(IN_RANGE))
+            }
+            _ => Err(self.unfit(expected)),
         }
     }
 
     /// The float nearest to a number, or to the number that a key spells.
     fn float<F: fast_float::FastFloat>(&mut self) -> Result<F, Fault> {
         if let Some(key) = self.key() {
-            return match fast_float::parse::<F, _>(key) {
-                Ok(x) => Ok(x),
-                Err(_) => Err(self.wrong_key("a number", key)),
-            };
+            return fast_float::parse::<F, _>(key).map_err(|_| self.unfit("a number"));
         }
-        let number = self.number()?;
-        let (positive, mantissa, exponent) = number.as_parts();
+        let (positive, mantissa, exponent) = self.number()?.as_parts();
         Ok(fast_float::from_parts(!positive, mantissa, i64::from(exponent)))
     }
 
@@ -70,11 +74,23 @@ impl<'v> TreeFormat<'v> {
                 return Ok(bytes);
             }
             let Ok(byte) = u8::try_from(self.u64(&[])?) else {
-                return Err(self.misfit());
+                return Err(self.invalid());
             };
             bytes.push(byte)?;
         }
         Err(Fault::MEMORY)
+    }
+
+    /// Fails unless the object that was begun has one entry, as that of a variant and its data has.
+    #[inline(never)]
+    fn single_entry(&mut self) -> Result<(), Fault> {
+        match self.place.frame.container {
+            Container::Map(object) if object.len() != 1 => {
+                self.leave();
+                Err(self.expected(Expected::Other("an object of 1 entry")))
+            }
+            _ => Ok(()),
+        }
     }
 }
 
@@ -82,7 +98,11 @@ const UNSIGNED: &str = "an integer of at least 0";
 
 const SIGNED: &str = "an integer";
 
+const IN_RANGE: &str = "an integer in the range of its type";
+
 const WIDE: Expected = Expected::Other("an integer of at most 64 bits");
+
+const FLOAT: &str = "a number in a float's range";
 
 /// Whether the names are those of variants.
 #[inline(always)]
@@ -92,23 +112,18 @@ fn is_of_variants(names: &[Name<'_>]) -> bool {
         .is_some_and(|name| name.kind == NameKind::Variant)
 }
 
-/// Whether a value is read as null. Only a program makes NaN, which is printed as null.
-#[inline(always)]
-fn is_null(value: &JsonValue) -> bool {
-    match value {
-        JsonValue::Null => true,
-        JsonValue::Number(number) => number.is_nan(),
-        _ => false,
-    }
-}
-
-/// Whether an integer's text has no plus, and no zero before other digits.
+/// Whether a text that is an integer's has no plus, and no zero before other digits.
 fn is_plain(key: &str) -> bool {
     match key.strip_prefix('-').unwrap_or(key).as_bytes() {
         [b'0'] => key.len() == 1,
         [first, ..] => matches!(first, b'1'..=b'9'),
         [] => false,
     }
+}
+
+/// Whether a text is an integer's, and plain.
+fn is_integer(key: &str) -> bool {
+    is_plain(key) && key.bytes().skip(1).all(|byte| byte.is_ascii_digit())
 }
 
 impl<'v> Format for TreeFormat<'v> {
@@ -119,11 +134,7 @@ impl<'v> Format for TreeFormat<'v> {
     #[inline(always)]
     fn bool(&mut self, _input: &[u8]) -> Result<bool, Fault> {
         if let Some(key) = self.key() {
-            return match key {
-                "true" => Ok(true),
-                "false" => Ok(false),
-                _ => Err(self.wrong_key("true or false", key)),
-            };
+            return key.parse().map_err(|_| self.unfit("true or false"));
         }
         match self.look()? {
             JsonValue::Boolean(truth) => {
@@ -143,7 +154,7 @@ impl<'v> Format for TreeFormat<'v> {
             self.pass();
             return Ok(integer);
         }
-        i64::try_from(self.integer(SIGNED)?).map_err(|_| self.misfit())
+        i64::try_from(self.integer(SIGNED)?).map_err(|_| self.invalid())
     }
 
     #[inline(always)]
@@ -173,36 +184,24 @@ impl<'v> Format for TreeFormat<'v> {
     }
 
     fn f32(&mut self, _input: &[u8]) -> Result<f32, Fault> {
-        let x = self.float::<f32>()?;
-        if x.is_finite() {
-            Ok(x)
-        } else {
-            Err(self.too_large())
-        }
+        let x: f32 = self.float()?;
+        x.is_finite().then_some(x).ok_or_else(|| self.unfit(FLOAT))
     }
 
     fn f64(&mut self, _input: &[u8]) -> Result<f64, Fault> {
-        let x = self.float::<f64>()?;
-        if x.is_finite() {
-            Ok(x)
-        } else {
-            Err(self.too_large())
-        }
+        let x: f64 = self.float()?;
+        x.is_finite().then_some(x).ok_or_else(|| self.unfit(FLOAT))
     }
 
     fn char(&mut self, _input: &[u8]) -> Result<char, Fault> {
-        let is_key = matches!(self.place.due, Due::Key(_, _));
-        let text = self.text()?;
-        match text.parse::<char>() {
-            Ok(c) => Ok(c),
-            Err(_) if is_key => Err(self.wrong_key("one character", text)),
-            Err(_) => Err(self.expected(Expected::Other("one character"))),
-        }
+        self.text()?
+            .parse::<char>()
+            .map_err(|_| self.unfit("one character"))
     }
 
     /// A value's strings don't stand in one input.
     fn plain_str(&mut self, _input: &[u8]) -> Result<(usize, usize), Fault> {
-        Err(self.said("nothing is borrowed from a value: take a `String`"))
+        Err(self.custom("nothing is borrowed from a value: take a `String`"))
     }
 
     fn plain_bytes(&mut self, input: &[u8]) -> Result<(usize, usize), Fault> {
@@ -241,13 +240,14 @@ impl<'v> Format for TreeFormat<'v> {
             return Ok(Kind::Str);
         }
         self.asked = Asked::Kind;
+        self.key = None;
         match self.look()? {
             JsonValue::Null => Ok(Kind::Unit),
+            JsonValue::Number(number) if number.is_nan() => Ok(Kind::Unit),
             JsonValue::Boolean(_) => Ok(Kind::Bool),
             JsonValue::Short(_) | JsonValue::String(_) => Ok(Kind::Str),
             JsonValue::Array(_) => Ok(Kind::Seq),
             JsonValue::Object(_) => Ok(Kind::Map),
-            JsonValue::Number(number) if number.is_nan() => Ok(Kind::Unit),
             JsonValue::Number(number) => match number.as_parts() {
                 (true, _, 0) => Ok(Kind::Unsigned),
                 (false, mantissa, 0) if 0 < mantissa && mantissa <= 1 << 63 => Ok(Kind::Signed),
@@ -265,27 +265,29 @@ impl<'v> Format for TreeFormat<'v> {
         Ok(is_taken)
     }
 
+    /// A NaN, which only a program makes, is printed as null, and read as null.
     #[inline(always)]
     fn take_none(&mut self, _input: &[u8]) -> Result<bool, Fault> {
-        let value = match self.place.due {
-            Due::Value(value) => value,
-            Due::Key(_, _) => return Ok(false),
-            Due::Nothing => return Err(self.misused()),
-        };
-        if is_null(value) {
-            self.pass();
-            return Ok(true);
+        if let Due::Key(_, _) = self.place.due {
+            return Ok(false);
         }
-        // The value is read next: an error is no longer its key's.
-        self.key = None;
-        Ok(false)
+        match self.look()? {
+            JsonValue::Null => {}
+            JsonValue::Number(number) if number.is_nan() => {}
+            _ => {
+                // The value is read next: an error is no longer its key's.
+                self.key = None;
+                return Ok(false);
+            }
+        }
+        self.pass();
+        Ok(true)
     }
 
     #[inline(always)]
     fn begin_seq(&mut self, _input: &[u8]) -> Result<(), Fault> {
-        let due = self.place.due;
-        match due {
-            Due::Value(JsonValue::Array(items)) => self.enter(Container::Seq(items.as_slice())),
+        match self.look()? {
+            JsonValue::Array(items) => self.enter(Container::Seq(items.as_slice())),
             _ => Err(self.expected(Expected::Array)),
         }
     }
@@ -309,22 +311,24 @@ impl<'v> Format for TreeFormat<'v> {
 
     #[inline(always)]
     fn begin_map(&mut self, _input: &[u8]) -> Result<(), Fault> {
-        let due = self.place.due;
-        match due {
-            Due::Value(JsonValue::Object(object)) => self.enter(Container::Map(object)),
-            _ => Err(self.no_object()),
+        match self.look()? {
+            JsonValue::Object(object) => self.enter(Container::Map(object)),
+            // An enum asks first of which kind the value is, as it takes a string too.
+            value if self.asked == Asked::Kind && value.as_str().is_none() => {
+                Err(self.expected(Expected::Other("a string or an object")))
+            }
+            _ => Err(self.expected(Expected::Object)),
         }
     }
 
     #[inline(always)]
     fn begin_struct(&mut self, _input: &[u8]) -> Result<bool, Fault> {
-        let due = self.place.due;
-        match due {
-            Due::Value(JsonValue::Object(object)) => {
+        match self.look()? {
+            JsonValue::Object(object) => {
                 self.enter(Container::Map(object))?;
                 Ok(false)
             }
-            Due::Value(JsonValue::Array(items)) => {
+            JsonValue::Array(items) => {
                 self.enter(Container::Seq(items.as_slice()))?;
                 self.spelling.cases = 0;
                 Ok(true)
@@ -335,6 +339,9 @@ impl<'v> Format for TreeFormat<'v> {
 
     #[inline(always)]
     fn next_key(&mut self, _input: &[u8], names: &[Name<'_>]) -> Result<Option<usize>, Fault> {
+        if is_of_variants(names) {
+            self.single_entry()?;
+        }
         let Some((key, value)) = self.entry()? else {
             self.note_spelling(names);
             return Ok(None);
@@ -342,7 +349,7 @@ impl<'v> Format for TreeFormat<'v> {
         self.place.due = Due::Value(value);
         let at = find(names, key);
         if at == usize::MAX && is_of_variants(names) {
-            self.note_variants(names, At::Key);
+            self.note_variants(names);
         }
         Ok(Some(at))
     }
@@ -356,14 +363,9 @@ impl<'v> Format for TreeFormat<'v> {
     }
 
     fn variant(&mut self, _input: &[u8], names: &[Name<'_>]) -> Result<usize, Fault> {
-        let name = self.text()?;
-        let at = find(names, name);
+        let at = find(names, self.text()?);
         if at == usize::MAX {
-            let stands = match self.place.due {
-                Due::Nothing => At::Value,
-                _ => At::Key,
-            };
-            self.note_variants(names, stands);
+            self.note_variants(names);
         }
         Ok(at)
     }
@@ -401,8 +403,8 @@ impl<'v> Format for TreeFormat<'v> {
     fn release(&mut self, mark: Mark<'v>) {
         self.kept = mark.kept;
         self.frames.truncate(self.place.frame.level.max(mark.kept));
-        if let Due::Value(_) = self.place.due {
-            // Nothing was read of the value.
+        if self.key.is_none() && !matches!(self.place.due, Due::Nothing) {
+            // Nothing was read of the value or the key.
             self.asked = Asked::Forms;
             self.spelling = mark.spelling;
         }
@@ -412,35 +414,71 @@ impl<'v> Format for TreeFormat<'v> {
         error.is_memory()
     }
 
+    #[cold]
     fn missing(&self, name: &str) -> Fault {
-        self.lacks(name)
+        self.missing_key(name).unwrap_or(Fault::MEMORY)
     }
 
     fn duplicate(&self, _name: &str) -> Fault {
-        self.fault(What::Said("given twice"), At::Key)
+        self.fault(true, What::Said("given twice"))
     }
 
     fn unknown_key(&self) -> Fault {
-        self.fault(What::Said("unknown key"), At::Key)
+        self.fault(true, What::Said("unknown key"))
     }
 
+    /// The error that `note_variants` kept, if it kept one.
+    #[cold]
     fn unknown_variant(&self) -> Fault {
-        self.unknown_name()
+        match &self.unknown {
+            Some(fault) => fault.clone().unwrap_or(Fault::MEMORY),
+            None => self.invalid(),
+        }
     }
 
+    /// The error of an array of another length than the type's. If an element is due, it is the
+    /// first after a tuple's last part, which tells the length; else the array was read to its end.
+    #[cold]
     fn wrong_len(&self) -> Fault {
-        self.misses_length()
+        let frame = self.place.frame;
+        match (frame.container, self.place.due, self.around()) {
+            (Container::Seq(items), Due::Value(_), Some(around)) => {
+                let expected = Expected::Exactly(frame.begun.saturating_sub(1));
+                let found = Found::Array(items.len());
+                self.fault_to(*around, false, None, What::Wrong { expected, found })
+            }
+            _ => self.expected(Expected::Other("an array of another length")),
+        }
     }
 
+    /// A key or a value that was read, but is none of the type's. An integer that was read is out of
+    /// the type's range.
+    #[cold]
     fn invalid(&self) -> Fault {
-        self.misfit()
+        let words = match (self.key_at_hand(), self.place.due, self.asked) {
+            (Some(_), Due::Value(_), Asked::Integer) => IN_RANGE,
+            (None, Due::Value(_), Asked::Unit) => "null",
+            (None, Due::Value(_), Asked::Forms) | (_, Due::Key(_, _), Asked::Forms) => {
+                "one of the forms of its type"
+            }
+            (Some(_), _, _) => "a key of its type",
+            (None, Due::Nothing, _) if matches!(self.last(), Some(JsonValue::Number(_))) =>
+                IN_RANGE,
+            _ => "a value of its type",
+        };
+        self.unfit(words)
     }
 
     fn no_memory(&self) -> Fault {
         Fault::MEMORY
     }
 
+    /// What a type's own reader says, of the key if it read that alone.
+    #[cold]
     fn custom(&self, message: &str) -> Fault {
-        self.said(message)
+        String::from_str(self.alloc, message).map_or(
+            Fault::MEMORY,
+            |words| self.fault(self.key_at_hand().is_some(), What::Custom(words)),
+        )
     }
 }

@@ -98,10 +98,7 @@ pub fn from_slice<T: DeserializeOwned>(alloc: Global, bytes: &[u8]) -> Result<T,
 pub fn to_value<T: Serialize>(alloc: Global, source: &T) -> Result<JsonValue, Error>
     ensures { IfErr result IsOfValue }
 {
-    match written(alloc, source, Tree::new(alloc)) {
-        Ok(tree) => Ok(tree.into_value()),
-        Err(fault) => Err(fault.into_error(alloc, &JsonValue::Null)),
-    }
+    Ok(written(alloc, source, Tree::new(alloc))?.whole)
 }
 
 /// The compact text of a type of `serde`: that of `to_value`'s `dump`, without the value. A key that
@@ -113,14 +110,14 @@ pub fn to_value<T: Serialize>(alloc: Global, source: &T) -> Result<JsonValue, Er
 pub fn to_string<T: Serialize>(alloc: Global, source: &T) -> Result<String, Error> {
     let mut out = DumpGenerator::new(alloc);
     out.get_writer().reserve(FIRST_ROOM)?;
-    Ok(text_of(alloc, source, out)?.consume()?)
+    Ok(written(alloc, source, Text::new(out))?.out.consume()?)
 }
 
 /// As `to_string`, with a line for each element and entry, indented by two spaces: that of `pretty`.
 pub fn to_string_pretty<T: Serialize>(alloc: Global, source: &T) -> Result<String, Error> {
     let mut out = PrettyGenerator::new(alloc, 2);
     out.get_writer().reserve(FIRST_ROOM)?;
-    Ok(text_of(alloc, source, out)?.consume()?)
+    Ok(written(alloc, source, Text::new(out))?.out.consume()?)
 }
 
 /// Writes the compact text to a writer, in many small pieces: give it a `BufWriter`. An error is the
@@ -130,9 +127,10 @@ pub fn to_string_pretty<T: Serialize>(alloc: Global, source: &T) -> Result<Strin
 /// to_writer(alloc, &mut out, &json)?;
 /// ```
 pub fn to_writer<W: Write, T: Serialize>(alloc: Global, out: &mut W, source: &T) -> io::Result<()> {
-    match written(alloc, source, Text::new(alloc, WriterGenerator::new(out))) {
-        Ok(_text) => Ok(()),
-        Err(fault) => Err(fault.into_io(alloc)),
+    let (text, done) = sent(alloc, source, Text::new(WriterGenerator::new(out)));
+    match text.slot {
+        Some(error) => Err(error),
+        None => Ok(done?),
     }
 }
 
@@ -145,19 +143,25 @@ fn read<T: DeserializeOwned>(alloc: Global, value: &JsonValue) -> Result<T, Faul
     Ok(read)
 }
 
-/// The generator that wrote a type.
-fn text_of<T: Serialize, G: Generator + Drop>(alloc: Global, source: &T, out: G) -> Result<G, Error>
-    ensures { IfErr result IsOfValue }
+/// What a sink made of a type, and whether that is all of it.
+fn sent<T: Serialize, S: Sink + Drop>(alloc: Global, source: &T, sink: S) -> (S, Result<(), Error>)
+    ensures { IfErr result.1 IsOfValue }
 {
-    match written(alloc, source, Text::new(alloc, out)) {
-        Ok(text) => Ok(text.into_generator()),
-        Err(fault) => Err(fault.into_error(alloc, &JsonValue::Null)),
-    }
+    let mut events = Events::new(alloc, sink);
+    let done = source.serialize(&mut events).and_then(|()| events.end());
+    let Events { sink, .. } = events;
+    (
+        sink,
+        done.map_err(|fault| fault.into_error(alloc, &JsonValue::Null)),
+    )
 }
 
-/// What the sink makes of a type.
-fn written<T: Serialize, S: Sink + Drop>(alloc: Global, source: &T, sink: S) -> Result<S, Fault> {
-    let mut events = Events::new(alloc, sink);
-    source.serialize(&mut events)?;
-    events.finish()
+/// What a sink makes of a type. A writer that is no caller's writes to memory: it fails if that is
+/// short.
+fn written<T: Serialize, S: Sink + Drop>(alloc: Global, source: &T, sink: S) -> Result<S, Error>
+    ensures { IfErr result IsOfValue }
+{
+    let (sink, done) = sent(alloc, source, sink);
+    done?;
+    Ok(sink)
 }

@@ -1,10 +1,9 @@
 //! What is made of a value's parts: a `JsonValue`, or a text.
 
-use crate::events::Sink;
+use crate::events::{Scalar, Sink};
 use crate::fault::Fault;
 use jzon::JsonValue;
 use jzon::codegen::Generator;
-use jzon::number::Number;
 use jzon::object::{Key, Object};
 use jzon::short::{MAX_LEN, Short};
 use std::alloc::Global;
@@ -25,7 +24,8 @@ struct Open {
 pub(crate) struct Tree {
     alloc: Global,
     open: Vec<Open>,
-    whole: JsonValue,
+    /// The whole value, once it came.
+    pub(crate) whole: JsonValue,
 }
 
 impl Tree {
@@ -37,14 +37,9 @@ impl Tree {
         }
     }
 
-    /// The whole value, once it came.
-    pub(crate) fn into_value(self) -> JsonValue {
-        self.whole
-    }
-
     /// Puts a value into the innermost container, or as the whole.
     #[inline(always)]
-    fn put(&mut self, value: JsonValue) -> Result<(), Fault> {
+    fn put_value(&mut self, value: JsonValue) -> Result<(), Fault> {
         let Some(open) = self.open.last_mut() else {
             self.whole = value;
             return Ok(());
@@ -57,28 +52,25 @@ impl Tree {
         if keys.len() != values.len() {
             return Err(Fault::MEMORY);
         }
-        self.put(JsonValue::Object(Object::from_entries(self.alloc, keys, values)?))
+        self.put_value(JsonValue::Object(Object::from_entries(self.alloc, keys, values)?))
     }
 }
 
 impl Sink for Tree {
-    fn put_null(&mut self) -> Result<(), Fault> {
-        self.put(JsonValue::Null)
-    }
-
-    fn put_bool(&mut self, truth: bool) -> Result<(), Fault> {
-        self.put(JsonValue::Boolean(truth))
-    }
-
-    fn put_number(&mut self, number: Number) -> Result<(), Fault> {
-        self.put(JsonValue::Number(number))
+    #[inline(always)]
+    fn put(&mut self, scalar: Scalar) -> Result<(), Fault> {
+        self.put_value(match scalar {
+            Scalar::Null => JsonValue::Null,
+            Scalar::Boolean(truth) => JsonValue::Boolean(truth),
+            Scalar::Number(number) => JsonValue::Number(number),
+        })
     }
 
     fn put_string(&mut self, text: &str) -> Result<(), Fault> {
         if text.len() <= MAX_LEN {
-            return self.put(JsonValue::Short(Short::from_slice(text)));
+            return self.put_value(JsonValue::Short(Short::from_slice(text)));
         }
-        self.put(JsonValue::String(String::from_str(self.alloc, text)?))
+        self.put_value(JsonValue::String(String::from_str(self.alloc, text)?))
     }
 
     fn put_key(&mut self, key: &str) -> Result<(), Fault> {
@@ -108,17 +100,16 @@ impl Sink for Tree {
         if is_map {
             return self.put_object(keys, values);
         }
-        self.put(JsonValue::Array(values))
+        self.put_value(JsonValue::Array(values))
     }
 }
 
 /// A text, written by a generator as `JsonValue::generate` does.
 #[derive(Drop)]
 pub(crate) struct Text<G: Generator + Drop> {
-    alloc: Global,
-    out: G,
+    pub(crate) out: G,
     /// The writer's error, which a step that failed left here.
-    slot: Option<io::Error>,
+    pub(crate) slot: Option<io::Error>,
     /// How many containers are open.
     depth: u64,
     /// Nothing is written yet in the innermost container.
@@ -126,37 +117,13 @@ pub(crate) struct Text<G: Generator + Drop> {
 }
 
 impl<G: Generator + Drop> Text<G> {
-    pub(crate) fn new(alloc: Global, out: G) -> Text<G> {
+    /// No part of a text yet.
+    pub(crate) fn new(out: G) -> Text<G> {
         Text {
-            alloc,
             out,
             slot: None,
             depth: 0,
             is_empty: false,
-        }
-    }
-
-    pub(crate) fn into_generator(self) -> G {
-        let Text { out, .. } = self;
-        out
-    }
-
-    /// The fault of a step of the generator that failed.
-    #[inline(always)]
-    fn done<E: Drop>(&mut self, step: Result<(), E>) -> Result<(), Fault> {
-        match step {
-            Ok(()) => Ok(()),
-            Err(_failed) => Err(self.failed()),
-        }
-    }
-
-    /// The writer's error, if it is one, or that of memory.
-    #[cold]
-    #[inline(never)]
-    fn failed(&mut self) -> Fault {
-        match self.slot.take() {
-            Some(error) => Fault::of_write(self.alloc, error),
-            None => Fault::MEMORY,
         }
     }
 
@@ -166,40 +133,36 @@ impl<G: Generator + Drop> Text<G> {
             self.is_empty = false;
             self.out.set_dent(self.depth);
         } else {
-            let step = self.out.try_write_char(b',', &mut self.slot);
-            self.done(step)?;
+            done(self.out.try_write_char(b',', &mut self.slot))?;
         }
-        let step = self.out.try_new_line(&mut self.slot);
-        self.done(step)
+        done(self.out.try_new_line(&mut self.slot))
     }
 }
 
+/// The fault of a step of a generator that failed, whose error is in the slot.
+#[inline(always)]
+fn done<E: Drop>(step: Result<(), E>) -> Result<(), Fault> {
+    step.map_err(|_failed| Fault::MEMORY)
+}
+
 impl<G: Generator + Drop> Sink for Text<G> {
-    fn put_null(&mut self) -> Result<(), Fault> {
-        let step = self.out.try_write(b"null", &mut self.slot);
-        self.done(step)
-    }
-
-    fn put_bool(&mut self, truth: bool) -> Result<(), Fault> {
-        let word: &[u8] = if truth { b"true" } else { b"false" };
-        let step = self.out.try_write(word, &mut self.slot);
-        self.done(step)
-    }
-
-    fn put_number(&mut self, number: Number) -> Result<(), Fault> {
-        let step = self.out.try_write_number(&number, &mut self.slot);
-        self.done(step)
+    #[inline(always)]
+    fn put(&mut self, scalar: Scalar) -> Result<(), Fault> {
+        done(match scalar {
+            Scalar::Null => self.out.try_write(b"null", &mut self.slot),
+            Scalar::Boolean(true) => self.out.try_write(b"true", &mut self.slot),
+            Scalar::Boolean(false) => self.out.try_write(b"false", &mut self.slot),
+            Scalar::Number(number) => self.out.try_write_number(&number, &mut self.slot),
+        })
     }
 
     fn put_string(&mut self, text: &str) -> Result<(), Fault> {
-        let step = self.out.try_write_string(text, &mut self.slot);
-        self.done(step)
+        done(self.out.try_write_string(text, &mut self.slot))
     }
 
     fn put_key(&mut self, key: &str) -> Result<(), Fault> {
         self.separate()?;
-        let step = self.out.try_write_key(key, &mut self.slot);
-        self.done(step)
+        done(self.out.try_write_key(key, &mut self.slot))
     }
 
     fn begin_element(&mut self) -> Result<(), Fault> {
@@ -210,20 +173,17 @@ impl<G: Generator + Drop> Sink for Text<G> {
         self.depth = self.depth.saturating_add(1);
         self.is_empty = true;
         let bracket = if is_map { b'{' } else { b'[' };
-        let step = self.out.try_write_char(bracket, &mut self.slot);
-        self.done(step)
+        done(self.out.try_write_char(bracket, &mut self.slot))
     }
 
     fn close(&mut self, is_map: bool) -> Result<(), Fault> {
         self.depth = self.depth.saturating_sub(1);
         if !self.is_empty {
             self.out.set_dent(self.depth);
-            let step = self.out.try_new_line(&mut self.slot);
-            self.done(step)?;
+            done(self.out.try_new_line(&mut self.slot))?;
         }
         self.is_empty = false;
         let bracket = if is_map { b'}' } else { b']' };
-        let step = self.out.try_write_char(bracket, &mut self.slot);
-        self.done(step)
+        done(self.out.try_write_char(bracket, &mut self.slot))
     }
 }

@@ -61,6 +61,8 @@ pub(crate) enum Asked {
     Kind,
     /// Whether it is null, which it isn't.
     Unit,
+    /// To be read as an integer, which the key is.
+    Integer,
     /// To be read in each of several forms, which it doesn't have.
     Forms,
 }
@@ -126,12 +128,13 @@ impl<'v> TreeFormat<'v> {
         }
     }
 
-    /// The value that is due. A key that is due comes first.
+    /// The value that is due. A key has to be a string's, a number's or a boolean's.
     #[inline(always)]
     pub(crate) fn look(&self) -> Result<&'v JsonValue, Fault> {
         match self.place.due {
             Due::Value(value) => Ok(value),
-            _ => Err(self.misused()),
+            Due::Key(_, _) => Err(self.unfit("a key of its type")),
+            Due::Nothing => Err(self.misused()),
         }
     }
 
@@ -197,21 +200,14 @@ impl<'v> TreeFormat<'v> {
     /// The string that is due, or the key.
     #[inline(always)]
     pub(crate) fn text(&mut self) -> Result<&'v str, Fault> {
-        match self.place.due {
-            Due::Key(key, value) => {
-                self.place.due = Due::Value(value);
-                self.key = Some(key);
-                Ok(key)
-            }
-            Due::Value(value) => match value.as_str() {
-                Some(text) => {
-                    self.pass();
-                    Ok(text)
-                }
-                None => Err(self.expected(Expected::String)),
-            },
-            Due::Nothing => Err(self.misused()),
+        if let Some(key) = self.key() {
+            return Ok(key);
         }
+        let Some(text) = self.look()?.as_str() else {
+            return Err(self.expected(Expected::String));
+        };
+        self.pass();
+        Ok(text)
     }
 
     /// The key that is due, if one is.
@@ -240,16 +236,14 @@ impl<'v> TreeFormat<'v> {
     /// share the object.
     #[inline(always)]
     pub(crate) fn note_spelling(&mut self, names: &[Name<'_>]) {
-        let before = if self.is_spelled_here() {
-            self.spelling.cases
-        } else {
-            0
-        };
-        self.spelling = Spelling {
-            level: self.place.frame.level,
-            begun: self.place.frame.begun,
-            cases: before | cases_of(names),
-        };
+        if !self.is_spelled_here() {
+            self.spelling = Spelling {
+                level: self.place.frame.level,
+                begun: self.place.frame.begun,
+                cases: 0,
+            };
+        }
+        self.spelling.cases |= cases_of(names);
     }
 
     /// Whether the spelling is of the object that ended just now.
@@ -264,25 +258,13 @@ impl<'v> TreeFormat<'v> {
 #[inline(always)]
 fn cases_of(names: &[Name<'_>]) -> u16 {
     let mut cases = 0;
-    for name in names {
-        if !name.skipped {
-            cases |= case_bit(name.case);
-        }
+    for name in names.iter().filter(|name| !name.skipped) {
+        cases |= case_bit(name.case);
     }
     cases
 }
 
 #[inline(always)]
 pub(crate) fn case_bit(case: Case) -> u16 {
-    match case {
-        Case::AsIs => 1,
-        Case::Lower => 2,
-        Case::Upper => 4,
-        Case::Pascal => 8,
-        Case::Camel => 16,
-        Case::Snake => 32,
-        Case::ScreamingSnake => 64,
-        Case::Kebab => 128,
-        Case::ScreamingKebab => 256,
-    }
+    1 << case as u16
 }

@@ -130,20 +130,12 @@ fn send_number<S: Serializer>(number: Number, out: &mut S) -> Result<(), S::Erro
     let words = InlineText::<64>::of(EXACT).and(number, 32);
     let _told = out.custom(words.as_str());
     let float: f64 = fast_float::from_parts(!positive, mantissa, i64::from(exponent));
-    if survives(number, float) {
+    let mut buffer = ryu::Buffer::new();
+    if number_of(buffer.format(float)) == Some(number) {
         return out.f64(float);
     }
     out.begin_key()?;
     out.begin_seq(None)
-}
-
-/// Whether the float's shortest text means the number.
-fn survives(number: Number, float: f64) -> bool {
-    if !float.is_finite() {
-        return false;
-    }
-    let mut buffer = ryu::Buffer::new();
-    number_of(buffer.format_finite(float)) == Some(number)
 }
 
 /// Writes any value.
@@ -218,39 +210,27 @@ fn fetch_number<F: Format>(
     let mark = from.mark();
     match from.byte_buf(alloc) {
         Ok(bytes) => {
-            if let Some(number) = number_in(bytes.as_slice()) {
+            let text = std::str::from_utf8(bytes.as_slice()).ok();
+            if let Some(number) = text.and_then(number_of) {
                 from.release(mark);
                 return Ok(number);
             }
         }
-        Err(error) => {
-            if from.is_fatal(&error) {
-                return Err(error);
-            }
-        }
+        Err(error) if from.is_fatal(&error) => return Err(error),
+        Err(_other) => {}
     }
     from.rewind(mark);
     from.release(mark);
     fetch_float(from)
 }
 
-/// As `number_of`, of bytes.
-fn number_in(bytes: &[u8]) -> Option<Number> {
-    match std::str::from_utf8(bytes) {
-        Ok(text) => number_of(text),
-        Err(_) => None,
-    }
-}
-
 /// The number of a float's shortest text.
 fn fetch_float<F: Format>(from: &mut Deserializer<'_, '_, F>) -> Result<Number, F::Error> {
     let float = from.f64()?;
-    if !float.is_finite() {
-        return Ok(NAN);
-    }
     let mut buffer = ryu::Buffer::new();
-    match number_of(buffer.format_finite(float)) {
+    match number_of(buffer.format(float)) {
         Some(number) => Ok(number),
+        None if !float.is_finite() => Ok(NAN),
         None => Err(from.invalid()),
     }
 }
