@@ -11,17 +11,7 @@ use std::test::Fail;
 
 /// What a text is written as again, through its type, or the error's message.
 pub fn again(alloc: Global, kind: &str, text: &str) -> Result<String, Fail> {
-    let read = match integer(alloc, kind, text) {
-        Some(read) => Some(read),
-        None => match other(alloc, kind, text) {
-            Some(read) => Some(read),
-            None => match structure(alloc, kind, text) {
-                Some(read) => Some(read),
-                None => choice(alloc, kind, text),
-            },
-        },
-    };
-    match read {
+    match integer(alloc, kind, text) {
         Some(Ok(text)) => Ok(text),
         Some(Err(error)) => Ok(format!(in alloc; "{error}")?),
         None => Err(Fail::from("no such type")),
@@ -42,11 +32,11 @@ fn integer(alloc: Global, kind: &str, text: &str) -> Option<Read> {
         "i32" => Some(written::<i32>(alloc, text)),
         "i64" => Some(written::<i64>(alloc, text)),
         "i128" => Some(written::<i128>(alloc, text)),
-        _ => None,
+        _ => scalar(alloc, kind, text),
     }
 }
 
-fn other(alloc: Global, kind: &str, text: &str) -> Option<Read> {
+fn scalar(alloc: Global, kind: &str, text: &str) -> Option<Read> {
     match kind {
         "f32" => Some(written::<f32>(alloc, text)),
         "f64" => Some(written::<f64>(alloc, text)),
@@ -55,6 +45,14 @@ fn other(alloc: Global, kind: &str, text: &str) -> Option<Read> {
         "String" => Some(written::<String>(alloc, text)),
         "()" => Some(written::<()>(alloc, text)),
         "Option" => Some(written::<Option<u8>>(alloc, text)),
+        "Exact" => Some(written::<Exact>(alloc, text)),
+        "Json" => Some(written::<Json>(alloc, text)),
+        _ => container(alloc, kind, text),
+    }
+}
+
+fn container(alloc: Global, kind: &str, text: &str) -> Option<Read> {
+    match kind {
         "Floats" => Some(written::<Vec<Option<f64>>>(alloc, text)),
         "Vec" => Some(written::<Vec<Vec<u8>>>(alloc, text)),
         "pair" => Some(written::<(u8, String)>(alloc, text)),
@@ -64,11 +62,11 @@ fn other(alloc: Global, kind: &str, text: &str) -> Option<Read> {
         "names" => Some(written::<BTreeMap<String, u8>>(alloc, text)),
         "ids" => Some(written::<BTreeMap<i32, bool>>(alloc, text)),
         "levels" => Some(written::<BTreeMap<Level, u8>>(alloc, text)),
+        "evens" => Some(written::<BTreeMap<Even, Even>>(alloc, text)),
+        "lists" => Some(written::<BTreeMap<Vec<u8>, u8>>(alloc, text)),
         "flags" => Some(written::<BTreeMap<bool, u8>>(alloc, text)),
         "characters" => Some(written::<BTreeMap<char, u8>>(alloc, text)),
-        "Exact" => Some(written::<Exact>(alloc, text)),
-        "Json" => Some(written::<Json>(alloc, text)),
-        _ => None,
+        _ => structure(alloc, kind, text),
     }
 }
 
@@ -85,7 +83,7 @@ fn structure(alloc: Global, kind: &str, text: &str) -> Option<Read> {
         "Limits" => Some(written::<Limits>(alloc, text)),
         "Flat" => Some(written::<Flat>(alloc, text)),
         "Extra" => Some(written::<Extra>(alloc, text)),
-        _ => None,
+        _ => choice(alloc, kind, text),
     }
 }
 
@@ -112,14 +110,26 @@ fn choice(alloc: Global, kind: &str, text: &str) -> Option<Read> {
 pub fn written<T: DeserializeOwned + Serialize>(alloc: Global, text: &str) -> Read {
     let read: T = from_str(alloc, text)?;
     let text = to_string(alloc, &read)?;
-    let value = to_value(alloc, &read)?;
-    let pretty = to_string_pretty(alloc, &read)?;
-    let back: T = from_value(alloc, &value)?;
-    let back = to_string(alloc, &back)?;
-    if is_text(alloc, &value, text.as_str(), pretty.as_str()) && back.as_str() == text.as_str() {
+    if is_written(alloc, &read, text.as_str())? {
         return Ok(text);
     }
     Ok(String::from_str(alloc, "not the same")?)
+}
+
+/// Whether its value and its text on lines say the same as the compact text, which is also that of
+/// what is read of the value.
+fn is_written<T: DeserializeOwned + Serialize>(
+    alloc: Global,
+    source: &T,
+    text: &str,
+) -> Result<bool, Error> {
+    let value = to_value(alloc, source)?;
+    let pretty = to_string_pretty(alloc, source)?;
+    if !is_text(alloc, &value, text, pretty.as_str()) {
+        return Ok(false);
+    }
+    let back: T = from_value(alloc, &value)?;
+    Ok(to_string(alloc, &back)?.as_str() == text)
 }
 
 /// Whether these are the value's compact text and that on lines.

@@ -91,9 +91,9 @@ enum Use {
 /// Reads it, and writes it in each way. The message of an error comes without a failed allocation.
 fn used<T: DeserializeOwned + Serialize>(alloc: Global, text: &str) -> Result<(), Error> {
     let read: T = from_str(alloc, text)?;
-    let _text = to_string(alloc, &read)?;
-    let _text = to_string_pretty(alloc, &read)?;
-    let _value = to_value(alloc, &read)?;
+    let _ = to_string(alloc, &read)?;
+    let _ = to_string_pretty(alloc, &read)?;
+    let _ = to_value(alloc, &read)?;
     Ok(())
 }
 
@@ -127,11 +127,24 @@ fn run(rt: &impl Tester, text: &str, kind: Use, refusals: &mut Refusals) -> Resu
     Ok(has_failed)
 }
 
+/// A list below a long key is read within this many bytes.
+fn expect_counted<T: DeserializeOwned + Drop>(
+    rt: &(impl Tester + Eprint),
+    row: &str,
+    text: &str,
+) -> Tested {
+    let mut refusals = Refusals::new(rt.alloc());
+    refusals.open();
+    let read: BTreeMap<String, Vec<T>> = from_str(rt.alloc(), text)?;
+    expect_eq(rt, row, read.len(), 1);
+    refusals.expect_within(rt, row, 2_000_000)?;
+    Ok(())
+}
+
 /// An untagged enum drops the error of each form that a value doesn't have, and one with a variant for
 /// other names that of a name. None has a copy of the keys around: here 100 KB, a thousand times.
 #[test]
 fn drops_short_errors_counted(rt: HostRuntime) -> Tested {
-    let alloc = rt.alloc();
     let parts = &[
         ("{\"", 1),
         ("k", 100_000),
@@ -139,16 +152,9 @@ fn drops_short_errors_counted(rt: HostRuntime) -> Tested {
         (",\"x\"", 999),
         ("]}", 1),
     ];
-    let text = joined(alloc, parts)?;
-    let mut refusals = Refusals::new(alloc);
-    refusals.open();
-    let read: BTreeMap<String, Vec<Either>> = from_str(alloc, text.as_str())?;
-    expect_eq(&rt, "keys", read.len(), 1);
-    refusals.expect_within(&rt, "untagged below a long key", 2_000_000)?;
-    refusals.open();
-    let read: BTreeMap<String, Vec<Kind>> = from_str(alloc, text.as_str())?;
-    expect_eq(&rt, "keys", read.len(), 1);
-    Ok(refusals.expect_within(&rt, "other names below a long key", 2_000_000)?)
+    let text = joined(rt.alloc(), parts)?;
+    expect_counted::<Either>(&rt, "untagged below a long key", text.as_str())?;
+    expect_counted::<Kind>(&rt, "other names below a long key", text.as_str())
 }
 
 #[test]

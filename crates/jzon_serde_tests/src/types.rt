@@ -150,7 +150,7 @@ pub struct Page<T> {
 }
 
 /// An even number, by `try_from`.
-#[derive(Clone, Copy, Serialize, Deserialize)]
+#[derive(Clone, Copy, Serialize, Deserialize, PartialEq, Eq, PartialOrd, Ord)]
 #[serde(try_from = "u8", into = "u8")]
 pub struct Even(u8);
 
