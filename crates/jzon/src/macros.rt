@@ -134,6 +134,7 @@ macro_rules! push_items {
     };
 }
 
+/// Inserts the pairs into the object, one after another.
 #[doc(hidden)]
 #[macro_export]
 macro_rules! insert_pairs {

@@ -1,6 +1,6 @@
 //! Parses texts (RFC 8259, section 2; docs/RULES.md, "Texts"). Bytes are read in loops, without
 //! recursion. Most methods promise `GoesOn`: they agree with an automaton (docs/ARCHITECTURE.md,
-//! "How the parser is proved").
+//! "How the parser is proved"). `left` is its outcome over the rest of the text, from a state.
 
 ghost use Rattle.std.specs.Prelude.{◌≡◌, ◌≢◌, ◌<◌, ◌+◌, length, chars, IfOk, IfErr, Err, None, Some, OnOk, true};
 ghost use Rattle.jzon_tree.specs.View.{view};

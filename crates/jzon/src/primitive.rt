@@ -128,7 +128,7 @@ fn literal(first: u8) -> (JsonValue, [u8; 4])
 }
 
 /// The offset after these letters, the last of a literal, compared one by one, so that the error is
-/// at the first wrong one.
+/// at the first wrong one. `past_letter` is the automaton's state before them.
 #[cold]
 #[inline(never)]
 fn read_letters(source: &str, start: usize, letters: &[u8]) -> Result<usize>

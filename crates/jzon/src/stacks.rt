@@ -414,8 +414,8 @@ impl Stacks {
         Ok(())
     }
 
-    /// Ends the innermost container, which is a nested one and has a value for each key, as
-    /// `close_with` does with its value.
+    /// Ends the innermost container, which is a nested one and has a value for each key, and adds
+    /// it to the one around it. After an error the stacks are unspecified.
     #[inline(always)]
     pub(crate) fn close(&mut self) -> Result<(), AllocError>
         requires even { HasAllValues self.old.innermost.kind self.old.innermost }

@@ -182,7 +182,7 @@ impl Keys {
         Ok(Keys { keys, index })
     }
 
-    /// Distinct keys, without an index.
+    /// Distinct keys, without an index. Look-ups compare each, so callers pass few (`LINEAR_MAX`).
     #[inline(always)]
     pub fn from_distinct(alloc: Global, keys: Vec<Key>) -> Keys
         requires { IsDistinct bytes_eq keys.items }

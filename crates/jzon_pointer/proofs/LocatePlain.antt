@@ -1,7 +1,7 @@
 -- The walk passes over runs of bytes that mean nothing to it: whitespace and digits outside of strings, and inside them
 -- bytes that need no escape. And a string is passed as a whole.
-use Rattle.jzon_base.proofs.Common.{◌≡◌, ◌∙◌, ◌≤◌, ◌<◌, ◌+◌, ◌^◌, ◌%◌, ℕ, suc, List, [], ◌∷◌, Bool, true, false, not, cond, ◌==◌, if◌then◌else◌, refl, sym, ap, ap₂, arith, nat_tests, length, drop, get_or, Some, eqb, ltb, take, replicate, map}
-use Rattle.jzon_base.proofs.Common.{and_parts, cond-false, cond-true, drop-drop, eq-eqb, length-chunk, length-drop, length-map, map-map, mask_l-mod, ne_eqb, prefix_len-le-length, zip2_splat}
+use Rattle.jzon_base.proofs.Common.{◌≡◌, ◌∙◌, ◌≤◌, ◌<◌, ◌+◌, ◌^◌, ◌%◌, ℕ, suc, List, [], ◌∷◌, Bool, true, false, not, cond, ◌==◌, if◌then◌else◌, refl, sym, ap, ap₂, arith, nat_tests, length, drop, get_or, Some, eqb, ltb, replicate, map}
+use Rattle.jzon_base.proofs.Common.{and_parts, cond-false, cond-true, drop-drop, eq-eqb, length-chunk, length-map, map-map, mask_l-mod, ne_eqb, zip2_splat}
 use Rattle.std.proofs.Common.{leb}
 use Rattle.std.proofs.lemmas.List.{drop_more}
 use Rattle.std.proofs.lemmas.Simd.{first_set_mask_l, zip2_splat_left}
@@ -9,6 +9,7 @@ use lib.Count.{count_trailing_zeros}
 use lib.Lanes.{chunk, mask_l, top, zip2}
 use Rattle.jzon_base.specs.Private.PlainBytes.{is_plain}
 use Rattle.jzon.specs.Private.Lines.{is_below}
+use Rattle.jzon.proofs.Texts.AsciiRuns.{within_run}
 use Rattle.std.specs.Int.Bits.{bit_xor, xor_zero_r}
 use Rattle.std.specs.List.{prefix_len}
 use Rattle.std.specs.Option.{option_map_or}
@@ -35,10 +36,6 @@ run_at : (p : ℕ → Bool) (f : List ℕ → List ℕ) → Passes p f → (byte
     → n ≡ prefix_len p (drop at bytes) → f (drop (at + n) bytes) ≡ f (drop at bytes)
 run_at p f h bytes at n e =
     ap f (sym (drop-drop n at bytes) ∙ ap (λ k. drop k (drop at bytes)) e) ∙ run p f h (drop at bytes)
-
-pub run_within : (p : ℕ → Bool) (bytes : List ℕ) (at n : ℕ) → at ≤ length bytes → n ≡ prefix_len p (drop at bytes)
-    → at + n ≤ length bytes
-run_within p bytes at n h e = omega (arith, h, e, prefix_len-le-length p (drop at bytes), length-drop at bytes)
 
 pub string_plain : (bytes : List ℕ) (at n : ℕ) → n ≡ prefix_len is_plain (drop at bytes)
     → string_rest false (drop (at + n) bytes) ≡ string_rest false (drop at bytes)
@@ -67,7 +64,7 @@ skim_digits = skim_run (is_below 48 10) digit_passes
 pub run_ends_within : (p : ℕ → Bool) (bytes : List ℕ) (at end : ℕ) → at ≤ length bytes → EndsRun p bytes at end
     → end ≤ length bytes
 run_ends_within p bytes at end h e =
-    omega (arith, e, run_within p bytes at (prefix_len p (drop at bytes)) h refl)
+    omega (arith, e, within_run p bytes at (prefix_len p (drop at bytes)) h refl)
 
 below_blank : (c : ℕ) → is_below 0 33 c ≡ is_blank c
 below_blank c = ap (λ x. ltb x 33) (xor_zero_r c)

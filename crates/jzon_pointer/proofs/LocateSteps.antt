@@ -8,7 +8,7 @@ use Rattle.std.specs.Char.{is_ascii_hexdigit}
 use Rattle.jzon.specs.Writing.{is_whitespace}
 use Rattle.jzon.specs.Reading.{Reading}
 use Rattle.jzon.specs.Grammar.{Sign, unsigned, plus, minus, Exponent, Numeral, Item, simple, single, double, Key, Node}
-use Rattle.jzon.specs.Grammar.{Elements, no_elements, element, Members, no_members, member, Document, Each}
+use Rattle.jzon.specs.Grammar.{Elements, no_elements, element, Members, no_members, member, Each}
 use Rattle.jzon.specs.Grammar.{IsWhitespace, AreDigits, IsDigits, IsWhole, IsExponent, IsNumeral, AreHex, IsItem, AreItems}
 use Rattle.jzon.specs.Grammar.{IsKey, IsNode, AreElements, AreMembers, is_unescaped, is_exponent_letter}
 use Rattle.jzon.specs.Grammar as grammar

@@ -27,9 +27,6 @@ has-it : (c : ℕ) (xs ys : List ℕ) → Lacks c (xs ++ c ∷ ys) → ⊥
 has-it c [] ys h = h 0 (omega arith) refl
 has-it c (x ∷ xs) ys h = has-it c xs ys (lacks-tail c x (xs ++ c ∷ ys) h)
 
-head-same : (x y : ℕ) (xs ys : List ℕ) → x ∷ xs ≡ y ∷ ys → x ≡ y
-head-same x y xs ys h = cc
-
 tail-same : (x y : ℕ) (xs ys : List ℕ) → x ∷ xs ≡ y ∷ ys → xs ≡ ys
 tail-same x y xs ys h = cc
 
@@ -42,7 +39,7 @@ same-before (x ∷ a) [] t s h f g =
     absurd (has-it 47 a t (subst (Lacks 47) (sym (tail-same x 47 (a ++ 47 ∷ t) s h)) g))
 same-before (x ∷ a) (y ∷ q) t s h f g =
     let rest = same-before a q t s (tail-same x y (a ++ 47 ∷ t) (q ++ 47 ∷ s) h) f g in
-    ap (λ z. z ∷ a) (head-same x y (a ++ 47 ∷ t) (q ++ 47 ∷ s) h) ∙ ap (λ l. y ∷ l) rest
+    ap (λ z. z ∷ a) (let g : x ≡ y = cc in g) ∙ ap (λ l. y ∷ l) rest
 
 pub is-parent : (p a t q k : List ℕ) → p ≡ a ++ 47 ∷ t → Lacks 47 t → p ≡ q ++ 47 ∷ escaped k → a ≡ q
 is-parent p a t q k cut lacks is = same-before a q t (escaped k) (sym cut ∙ is) lacks (lacks-escaped k)

@@ -233,7 +233,7 @@ impl Error {
     }
 
     /// What went wrong with a value, a pointer or a patch. `None` if a text is rejected, or if an
-    /// allocation failed, also for the report of a NaN.
+    /// allocation failed, even if that was to report a NaN, as `is_not_a_number` still does.
     ///
     /// ```rust
     /// Err(error) if matches!(error.what(), Some(What::Pointer(_))) => Ok(None),
@@ -268,7 +268,8 @@ impl Error {
         }
     }
 
-    /// The member of the operation that has the pointer, if it leads nowhere.
+    /// The member of the patch's operation that has this pointer, if the pointer leads nowhere.
+    /// `None` for any other error.
     pub fn member(&self) -> Option<Member>
         ensures { result ≡ member_of self.now }
     {
@@ -389,7 +390,7 @@ impl Clone for Error {
     }
 }
 
-/// A copy of a text's error.
+/// A copy of a text's error, which has no `Clone`.
 fn copied(error: &jzon::Error) -> Result<jzon::Error, AllocError> {
     Ok(match error {
         jzon::Error::UnexpectedCharacter { ch, line, column } => {
@@ -441,7 +442,7 @@ impl From<jzon::Error> for Error {
     }
 }
 
-/// So that `?` after a call of std returns `OutOfMemory`.
+/// So that `?` after a call of std returns `Error::MEMORY`.
 impl From<AllocError> for Error {
     ghost from_gives = { λ _ e. e ≡ memory };
 

@@ -3,10 +3,10 @@
 //! The text is walked once, without a tree: what the pointer passes by is skipped by its brackets and
 //! quotes alone. `pointed` of specs/Locate.antt says which value of the text that is.
 //!
-//! `Walk::find`, `find_element`, `find_member` and `pass_entry` call one another, once for each token;
-//! proofs/locate/Walk/+walk says what gets smaller: the number of tokens that are left.
+//! `Walk::find`, `find_element`, `find_member` and `pass_entry` call one another, `find` each time
+//! for the next token; proofs/locate/Walk/+walk says what gets smaller: the number of tokens left.
 
-ghost use Rattle.std.specs.Prelude.{◌≡◌, ◌<◌, ◌≤◌, ◌+◌, ◌^◌, ◌∷◌, ◌++◌, [], List, ℕ, drop, length, chars, false, true, IfErr, IfOk, IfSome, IsOk, Ok, map, None, option_map, Some, slice_index, take};
+ghost use Rattle.std.specs.Prelude.{◌≡◌, ◌<◌, ◌≤◌, ◌+◌, ◌∷◌, ◌++◌, [], List, ℕ, drop, length, chars, false, true, IfErr, IfOk, IfSome, IsOk, Ok, map, None, option_map, Some, slice_index, take};
 ghost use Rattle.std.specs.List.{prefix_len};
 ghost use Rattle.jzon_base.specs.declared.error.Error.TheVariants.{OutOfMemory};
 ghost use Rattle.jzon.specs.Fault.{Parses};
@@ -75,7 +75,8 @@ struct Walk<'a> {
 /// Takes time for the length of the text and of the pointer, whatever they hold; by a strict reading,
 /// which accepts no repeated key, the text is read only up to the place. Memory is taken for the
 /// pointer's tokens, and for one key with an escape at a time: the only error is `OutOfMemory`, and
-/// none if the pointer is empty or begins with no slash.
+/// none if the pointer is empty or begins with no slash. By `meant` the value is the one that
+/// `jzon_pointer::find` returns.
 ///
 /// `/a/1` in `{"a": [1, true]}` is at offset 10, in line 1 and column 11.
 #[tactic(auto, using(crate::proofs::LocateMeaning::is_meant))]
@@ -172,7 +173,7 @@ fn tokens_in<'a>(alloc: Global, pointer: &'a str) -> Result<Option<Vec<&'a str>>
 }
 
 impl Walk<'_> {
-    /// Walks over the value at a spot to what the tokens from number `level` on name in it. So many
+    /// Walks over the value at a spot to what the tokens from number `level` on name in it. `level`
     /// containers are around it; if no more may be open, it has nothing inside, and isn't entered.
     #[cycle(walk)]
     fn find(&self, spot: Spot, level: usize) -> jzon::Result<Passed>
@@ -270,7 +271,8 @@ impl Walk<'_> {
         })
     }
 
-    /// Walks over one entry. What was `found` before stays, unless the token names its key.
+    /// Walks over the entry whose key begins at `name`. What was `found` before stays, unless the
+    /// token names the key: then what is inside the value counts, even if that is nothing.
     #[cycle(walk)]
     fn pass_entry(
         &self,

@@ -10,9 +10,9 @@ ghost use Rattle.jzon_pointer.specs.Shown.{byte_text, cut_text, escape_text, fit
 use jzon::{Error, LocatedError};
 use std::fmt;
 
-/// A pointer in a message: characters that aren't seen, or turn the line, are escaped as in JSON, and
-/// of a pointer of more than 200 bytes the middle is left out, with `..` for it: the first and the last
-/// 100 characters are shown, or as many as take 100 bytes if each were as wide as the widest.
+/// A pointer in a message: characters that aren't seen, or turn the line, are escaped as in JSON,
+/// and if it takes more than 200 bytes so, the middle is left out, with `..`: the first and the last 100
+/// characters are shown, or as many as take 100 bytes if each were as wide as the widest.
 ///
 /// ```rust
 /// let shown = format!(in alloc; "{}", ShownPointer(path))?;
@@ -28,7 +28,8 @@ impl fmt::Display for ShownPointer<'_> {
     }
 }
 
-/// A token or a key in a message: escaped as a pointer is, and after 40 characters, or 240 bytes, `..`.
+/// A token or a key in a message: escaped as a pointer is, and after 40 characters, or as many as
+/// take 240 bytes if each were as wide as the widest, `..`.
 #[derive(Clone, Copy)]
 pub struct ShownToken<'a>(pub &'a str);
 
@@ -41,8 +42,8 @@ impl fmt::Display for ShownToken<'_> {
     }
 }
 
-/// The words of a program in a message: as they are, or, if there are more than 200 bytes or a character
-/// isn't seen, escaped as a pointer is, and after 200 bytes `..`.
+/// The words of a program in a message: as they are, or, if there are more than 200 bytes or a
+/// character isn't seen, escaped as a pointer is, and after at most 200 bytes `..`.
 #[derive(Clone, Copy)]
 pub struct ShownWords<'a>(pub &'a str);
 
@@ -85,7 +86,7 @@ pub fn show_pointer<W: fmt::Write>(f: &mut fmt::Formatter<W>, pointer: &str) -> 
     show_fitting(f, pointer, 200, each, each)
 }
 
-/// How many bytes the widest character of a text takes where it is shown: at least 1.
+/// How many bytes the widest character of a text takes as it is shown: at least 1, as a divisor.
 fn widest(text: &str) -> usize
     ensures widest { result ≡ widest (chars text.now) }
     ensures some { 1 ≤ result }
@@ -109,8 +110,8 @@ fn width(ch: char) -> usize
     }
 }
 
-/// A text, escaped, or, if it takes more than `most` bytes so, its first `front` and its last `back`
-/// characters, with dots between them.
+/// A text, escaped; of one that takes more than `most` bytes so, its first `front` and its last
+/// `back` characters, with dots between them. `most` is bounded because `shown_len` saturates.
 fn show_fitting<W: fmt::Write>(
     f: &mut fmt::Formatter<W>,
     text: &str,
@@ -179,7 +180,7 @@ fn show_piece<W: fmt::Write>(
     Ok(())
 }
 
-/// The error of a text, whose character is escaped.
+/// A text's error as `jzon` prints it, but with its character escaped.
 pub fn show_text_error<W: fmt::Write>(
     f: &mut fmt::Formatter<W>,
     error: &LocatedError,
@@ -329,7 +330,7 @@ fn show_others<W: fmt::Write>(f: &mut fmt::Formatter<W>, names: &[&str]) -> fmt:
     Ok(())
 }
 
-/// A known key, of which 40 bytes are shown.
+/// A known key, of which at most 40 bytes are shown.
 #[derive(Clone, Copy)]
 struct ShownName<'a>(&'a str);
 

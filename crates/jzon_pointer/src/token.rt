@@ -1,8 +1,9 @@
 //! The reference tokens of a pointer's text (RFC 6901, sections 3 and 4).
 //!
 //! A token is kept as it is written. Where it has no `~`, it is the key itself, and the object's index
-//! finds it. A token with an escape is decoded first: on the stack, so that nothing is allocated, or, to
-//! a key of more than `DECODED_MAX` bytes, in memory of the object's allocator.
+//! finds it. A token with an escape is compared with each key of an object of at most `FEW`; for a
+//! larger one it is decoded: on the stack, so that nothing is allocated, or, to a key of more than
+//! `DECODED_MAX` bytes, in memory of the object's allocator.
 
 ghost use Rattle.std.specs.Prelude.{◌≡◌, ◌&&◌, ◌==◌, ◌<◌, ◌≤◌, ◌+◌, ◌∷◌, ◌++◌, nat_lt, suc, true, false, if◌then◌else◌, MatchOption, OnOk, OnErr, length, drop, slice_index, option_map, option_and_then, IfOk, IfErr, IfSome, string_bytes, None, Some};
 ghost use Rattle.std.specs.Char.{is_ascii_digit};
@@ -131,8 +132,8 @@ fn position_decoded(object: &Object, token: &str) -> Option<usize>
     }
 }
 
-/// The same of a key that doesn't fit there, in memory of the object's allocator, or without it if it
-/// is refused.
+/// The same of a token whose key is longer than `DECODED_MAX`: it is decoded in memory of the
+/// object's allocator, or, if that is refused, compared with each key.
 fn position_of_long(object: &Object, token: &str) -> Option<usize>
     ensures { result ≡ position (names token.now) (keys_of (entries_of object.now)) }
 {
@@ -266,7 +267,7 @@ pub fn key_of(alloc: Global, token: &str) -> Result<Option<String>, AllocError>
     Ok(Some(key))
 }
 
-/// The token of a key: `~0` for each `~`, and `~1` for each `/`.
+/// Appends the token of a key: `~0` for each `~`, and `~1` for each `/`.
 pub fn push_escaped(text: &mut String, key: &str) -> Result<(), AllocError>
     ensures { OnOk result (string_bytes text.new ≡ string_bytes text.old ++ escaped key.now) }
 {
@@ -279,7 +280,7 @@ pub fn push_escaped(text: &mut String, key: &str) -> Result<(), AllocError>
     push_slashed(text, rest)
 }
 
-/// `~1` for each `/`.
+/// Appends a key without `~`, with `~1` for each `/`.
 fn push_slashed(text: &mut String, key: &str) -> Result<(), AllocError>
     ensures { OnOk result (string_bytes text.new ≡ string_bytes text.old ++ slashed key.now) }
 {

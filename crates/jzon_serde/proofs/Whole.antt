@@ -1,5 +1,5 @@
 -- What is read of a number without a sign is the integer that it is; of its opposite, the opposite integer.
-use Rattle.std.proofs.Common.{◌≡◌, ℕ, ◌^◌, ◌<◌, ℤ, pos, neg_ℤ, ◌+ℤ◌, Bool, true, false, Option, None, Some, if◌then◌else◌, sym, ap}
+use Rattle.std.proofs.Common.{◌≡◌, ℕ, ◌^◌, ◌<◌, pos, neg_ℤ, ◌+ℤ◌, Bool, true, false, None, Some, if◌then◌else◌, sym, ap}
 use Rattle.std.proofs.lemmas.Bool.{false≢true}
 use Rattle.jzon.specs.Decimal.{Decimal, nan, parts, negated, is_whole, whole_part, exact_fixed_point, exact_unsigned_fixed_point, SomeWhere}
 

@@ -48,6 +48,7 @@ impl<'v> TreeFormat<'v> {
             if let Container::Whole(_) = frame.container {
                 break;
             }
+            // If no member was begun, the container is wrong.
             let at = frame.begun.checked_sub(1);
             if at.is_some_and(|at| indexes.push(at).is_err()) {
                 return Fault::MEMORY;
@@ -78,7 +79,7 @@ impl<'v> TreeFormat<'v> {
         )
     }
 
-    /// The error of the value that was read last, which isn't what is expected.
+    /// The error of the value that was begun last, which isn't what is expected.
     #[cold]
     #[inline(never)]
     pub(crate) fn expected(&self, expected: Expected) -> Fault {
@@ -139,8 +140,8 @@ impl<'v> TreeFormat<'v> {
         Ok(key)
     }
 
-    /// Keeps the error that none of the variants' names is there, as a string or as a key. A type may
-    /// have a variant for that.
+    /// Keeps for `unknown_variant` the error that none of the variants' names is there, as a string
+    /// or as a key. A type may have a variant for that.
     #[cold]
     #[inline(never)]
     pub(crate) fn note_variants(&mut self, names: &[Name<'_>]) {

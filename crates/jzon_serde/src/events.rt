@@ -14,7 +14,7 @@ use std::cell::Cell;
 use std::fmt::{Display, Write};
 use std::result::Result;
 
-/// How many containers may be open: as many as a text that is read.
+/// How many containers may be open: as many as in a text that `parse` reads.
 pub(crate) const MAX_DEPTH: usize = 512;
 
 /// A value that has no parts and is no string.
@@ -79,6 +79,7 @@ pub(crate) struct Events<S: Sink + Drop> {
 }
 
 impl<S: Sink + Drop> Events<S> {
+    /// Before the first event: the whole value is due.
     pub(crate) fn new(alloc: Global, sink: S) -> Events<S> {
         Events {
             alloc,
@@ -145,7 +146,8 @@ impl<S: Sink + Drop> Events<S> {
         self.sink.put_string(text)
     }
 
-    /// Writes `v`; `number` is `None` if it has more than 64 bits. A key is printed in full.
+    /// Writes an integer, or the decimal of an `Exact`; `number` is `None` if `v` has more than 64
+    /// bits. A key is printed in full.
     #[inline(always)]
     fn put_integer<T: Display>(&mut self, v: &T, number: Option<Number>) -> Result<(), Fault> {
         match number {
@@ -155,7 +157,7 @@ impl<S: Sink + Drop> Events<S> {
         }
     }
 
-    /// The shortest decimal that is read back as the same float, or a key.
+    /// The shortest digits that are read back as the same float, as a number or a key.
     fn put_float<F: ryu::Float>(&mut self, v: F) -> Result<(), Fault> {
         let mut buffer = ryu::Buffer::new();
         let text = buffer.format(v);
@@ -177,6 +179,7 @@ impl<S: Sink + Drop> Events<S> {
         self.put_room(room, key)
     }
 
+    /// Takes the room, cleared, until `put_room`.
     fn cleared_room(&mut self) -> String {
         let mut room = std::mem::replace(&mut self.room, String::new(self.alloc));
         room.clear();
@@ -190,6 +193,7 @@ impl<S: Sink + Drop> Events<S> {
         done
     }
 
+    /// Opens a map or a list where a value is due that is no key.
     fn open(&mut self, is_map: bool) -> Result<(), Fault>
         ensures within { OnOk result (length self.new.around.items ≤ 512) }
     {
@@ -206,6 +210,7 @@ impl<S: Sink + Drop> Events<S> {
         self.sink.open(is_map)
     }
 
+    /// Closes the innermost container, which must be of this kind, with no value due after a key.
     fn close(&mut self, is_map: bool) -> Result<(), Fault> {
         let due = if is_map { Due::Key } else { Due::Element };
         if self.level.due != due {
@@ -290,6 +295,7 @@ impl<S: Sink + Drop> Serializer for Events<S> {
         self.close(false)
     }
 
+    /// Null; of a flattened `None` nothing.
     fn unit(&mut self) -> Result<(), Fault> {
         if self.at_key {
             return Err(self.refused("a key is a string, a number or a boolean"));
@@ -318,6 +324,7 @@ impl<S: Sink + Drop> Serializer for Events<S> {
         self.close(false)
     }
 
+    /// After `flatten_next` nothing is opened: the entries go into the map that is open (`flat`).
     fn begin_map(&mut self, _len: Option<usize>) -> Result<(), Fault> {
         if !self.flattens {
             return self.open(true);
@@ -330,6 +337,7 @@ impl<S: Sink + Drop> Serializer for Events<S> {
         Ok(())
     }
 
+    /// A flattened map's end closes nothing.
     fn end_map(&mut self) -> Result<(), Fault> {
         if self.level.flat > 0 && self.level.due == Due::Key {
             self.level.flat -= 1;
@@ -342,6 +350,7 @@ impl<S: Sink + Drop> Serializer for Events<S> {
         self.put_name(NameKind::Field, name, case, true)
     }
 
+    /// A variant's name, the key of its data.
     fn variant_key(&mut self, name: &str, case: Case) -> Result<(), Fault> {
         self.put_name(NameKind::Variant, name, case, true)
     }
@@ -361,8 +370,9 @@ impl<S: Sink + Drop> Serializer for Events<S> {
         Ok(())
     }
 
-    /// What the type's own writer says. The words of `Exact` are no error: the number is kept until
-    /// the next event, and `send_number` drops what is returned.
+    /// What the type's own writer says. Words that begin with `EXACT` are no error: in them
+    /// `send_number` passes the number of an `Exact`, which is kept for the next event, and drops
+    /// what is returned.
     fn custom(&self, message: &str) -> Fault {
         if let Some(digits) = message.strip_prefix(EXACT) {
             self.exact.set(number_of(digits));

@@ -72,6 +72,7 @@ impl Fault {
         if !is_of_key {
             return error.in_text(alloc, text, reading);
         }
+        // `Error::in_text` would place the value.
         match locate::key_in(alloc, text, error.pointer(), reading) {
             Ok(place) => error.at_place(place),
             Err(_refused) => error,

@@ -39,8 +39,8 @@ impl<'v> TreeFormat<'v> {
         u64::try_from(integer).map_err(|_| self.expected(Expected::Other(UNSIGNED)))
     }
 
-    /// The integer of a key, if it spells one in the one way: no plus, and no zero before other
-    /// digits. So two keys of an object aren't one of a map.
+    /// The integer of a key, which std has parsed, if the key is plain: so two keys of an object
+    /// aren't one of a map.
     fn integer_key<T: Drop>(
         &mut self,
         key: &str,
@@ -66,7 +66,8 @@ impl<'v> TreeFormat<'v> {
         Ok(fast_float::from_parts(!positive, mantissa, i64::from(exponent)))
     }
 
-    /// The bytes that the numbers of an array are.
+    /// The bytes that the numbers of an array are. No array is as long as the loop's bound, by
+    /// which the loop is proved to end.
     fn bytes_of_items(&mut self, alloc: Global) -> Result<Vec<u8>, Fault> {
         let mut bytes = Vec::new(alloc);
         for _ in 0..u64::MAX {
@@ -86,6 +87,7 @@ impl<'v> TreeFormat<'v> {
     fn single_entry(&mut self) -> Result<(), Fault> {
         match self.place.frame.container {
             Container::Map(object) if object.len() != 1 => {
+                // The object is wrong.
                 self.leave();
                 Err(self.expected(Expected::Other("an object of 1 entry")))
             }
@@ -112,7 +114,7 @@ fn is_of_variants(names: &[Name<'_>]) -> bool {
         .is_some_and(|name| name.kind == NameKind::Variant)
 }
 
-/// Whether a text that is an integer's has no plus, and no zero before other digits.
+/// Whether a text that is an integer's has no plus, no zero before other digits, and isn't `-0`.
 fn is_plain(key: &str) -> bool {
     match key.strip_prefix('-').unwrap_or(key).as_bytes() {
         [b'0'] => key.len() == 1,
@@ -256,6 +258,7 @@ impl<'v> Format for TreeFormat<'v> {
         }
     }
 
+    /// As `take_none`; if not taken, `invalid` expects null.
     #[inline(always)]
     fn take_unit(&mut self, input: &[u8]) -> Result<bool, Fault> {
         let is_taken = self.take_none(input)?;
@@ -265,7 +268,8 @@ impl<'v> Format for TreeFormat<'v> {
         Ok(is_taken)
     }
 
-    /// A NaN, which only a program makes, is printed as null, and read as null.
+    /// Passes over null, if it is due. A NaN, which only a program makes, is printed and read as
+    /// null.
     #[inline(always)]
     fn take_none(&mut self, _input: &[u8]) -> Result<bool, Fault> {
         if let Due::Key(_, _) = self.place.due {
@@ -292,6 +296,7 @@ impl<'v> Format for TreeFormat<'v> {
         }
     }
 
+    /// Goes to the next element, unless one is still due, or leaves the array at its end.
     #[inline(always)]
     fn next_item(&mut self, _input: &[u8]) -> Result<bool, Fault> {
         let Container::Seq(items) = self.place.frame.container else {
@@ -321,6 +326,7 @@ impl<'v> Format for TreeFormat<'v> {
         }
     }
 
+    /// Enters a struct's object, or an array of its fields (`true`), whose keys aren't known.
     #[inline(always)]
     fn begin_struct(&mut self, _input: &[u8]) -> Result<bool, Fault> {
         match self.look()? {
@@ -337,6 +343,7 @@ impl<'v> Format for TreeFormat<'v> {
         }
     }
 
+    /// Which name the next key is, or `usize::MAX`. At the end `missing` needs the names' spelling.
     #[inline(always)]
     fn next_key(&mut self, _input: &[u8], names: &[Name<'_>]) -> Result<Option<usize>, Fault> {
         if is_of_variants(names) {
@@ -354,6 +361,7 @@ impl<'v> Format for TreeFormat<'v> {
         Ok(Some(at))
     }
 
+    /// Goes to the next key, which is read as a value.
     fn next_entry(&mut self, _input: &[u8]) -> Result<bool, Fault> {
         let Some((key, value)) = self.entry()? else {
             return Ok(false);
@@ -393,6 +401,7 @@ impl<'v> Format for TreeFormat<'v> {
         mark
     }
 
+    /// Goes back to a mark, and drops later ones.
     fn rewind(&mut self, mark: Mark<'v>) {
         self.place = mark.place;
         self.key = None;
@@ -400,11 +409,12 @@ impl<'v> Format for TreeFormat<'v> {
         self.frames.truncate(mark.frames);
     }
 
+    /// Drops a mark, later ones, and the frames that only they kept.
     fn release(&mut self, mark: Mark<'v>) {
         self.kept = mark.kept;
         self.frames.truncate(self.place.frame.level.max(mark.kept));
         if self.key.is_none() && !matches!(self.place.due, Due::Nothing) {
-            // Nothing was read of the value or the key.
+            // Nothing was read: no form fitted, or only a tag was looked up, by its own spelling.
             self.asked = Asked::Forms;
             self.spelling = mark.spelling;
         }
@@ -451,8 +461,8 @@ impl<'v> Format for TreeFormat<'v> {
         }
     }
 
-    /// A key or a value that was read, but is none of the type's. An integer that was read is out of
-    /// the type's range.
+    /// A key or a value that is none of the type's. If no value was read, `asked` tells what is
+    /// expected; a number that was read is out of the type's range.
     #[cold]
     fn invalid(&self) -> Fault {
         let words = match (self.key_at_hand(), self.place.due, self.asked) {

@@ -89,8 +89,8 @@ pub fn from_slice<T: DeserializeOwned>(alloc: Global, bytes: &[u8]) -> Result<T,
     }
 }
 
-/// The value that a type of `serde` is written as. Of a key that is written twice, as by a flattened
-/// map, the last value counts.
+/// The value that a type of `serde` is written as. Of a key that is written twice, as by a
+/// flattened struct, the last value counts.
 ///
 /// ```rust
 /// let mut value: JsonValue = jzon_serde::to_value(alloc, &order)?;
@@ -152,12 +152,12 @@ fn sent<T: Serialize, S: Sink + Drop>(alloc: Global, source: &T, sink: S) -> (S,
     let Events { sink, .. } = events;
     (
         sink,
+        // A fault of writing has no indexes.
         done.map_err(|fault| fault.into_error(alloc, &JsonValue::Null)),
     )
 }
 
-/// What a sink makes of a type. A writer that is no caller's writes to memory: it fails if that is
-/// short.
+/// What a sink in memory makes of a type. The sink fails only if that is short: no `slot` is read.
 fn written<T: Serialize, S: Sink + Drop>(alloc: Global, source: &T, sink: S) -> Result<S, Error>
     ensures { IfErr result IsOfValue }
 {

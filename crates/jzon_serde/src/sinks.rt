@@ -29,6 +29,7 @@ pub(crate) struct Tree {
 }
 
 impl Tree {
+    /// No part of a value yet.
     pub(crate) fn new(alloc: Global) -> Tree {
         Tree {
             alloc,

@@ -1,6 +1,6 @@
 //! A place in a value that is read, and the steps from one to the next.
 //!
-//! A frame is never changed: a mark is a copy of the place, and going back to it moves nothing.
+//! A frame in `frames` never changes: a mark copies the place, and going back to it moves nothing.
 
 use crate::fault::Fault;
 use jzon::JsonValue;
@@ -75,7 +75,8 @@ pub(crate) struct TreeFormat<'v> {
     /// How many frames a mark needs.
     pub(crate) kept: usize,
     pub(crate) place: Place<'v>,
-    /// The key that was last read as a value, and whether its entry's value is still to come.
+    /// The key that was last read as a value. `None` again once the next member begins, and where
+    /// an error is no longer the key's.
     pub(crate) key: Option<&'v str>,
     /// The error of the variant's name that was last looked up in vain.
     pub(crate) unknown: Option<Fault>,
@@ -95,6 +96,8 @@ pub(crate) struct Spelling {
 }
 
 impl<'v> TreeFormat<'v> {
+    /// At the value, which is begun, as the one member of `Whole`. `spelling` is of no object: at
+    /// level 0 none is begun.
     pub(crate) fn new(alloc: Global, value: &'v JsonValue) -> TreeFormat<'v> {
         let frame = Frame {
             container: Container::Whole(value),
@@ -189,7 +192,7 @@ impl<'v> TreeFormat<'v> {
         Ok(Some(entry))
     }
 
-    /// The next member begins: nothing was asked of it, and no key of another entry is its own.
+    /// The next member begins: no error of it names the key of the one before, or what was asked.
     #[inline(always)]
     pub(crate) fn begin_member(&mut self) {
         self.place.frame.begun = self.place.frame.begun.saturating_add(1);
@@ -210,7 +213,7 @@ impl<'v> TreeFormat<'v> {
         Ok(text)
     }
 
-    /// The key that is due, if one is.
+    /// Reads the key that is due, if one is.
     #[inline(always)]
     pub(crate) fn key(&mut self) -> Option<&'v str> {
         let Due::Key(key, value) = self.place.due else {
@@ -221,6 +224,7 @@ impl<'v> TreeFormat<'v> {
         Some(key)
     }
 
+    /// The number that is due. NaN is none.
     #[inline(always)]
     pub(crate) fn number(&mut self) -> Result<Number, Fault> {
         match self.look()?.as_number() {
@@ -254,7 +258,7 @@ impl<'v> TreeFormat<'v> {
     }
 }
 
-/// How the names are spelled by which a key is read.
+/// The bit (`case_bit`) of each case in which the names spell a key. A skipped name spells none.
 #[inline(always)]
 fn cases_of(names: &[Name<'_>]) -> u16 {
     let mut cases = 0;
@@ -264,6 +268,7 @@ fn cases_of(names: &[Name<'_>]) -> u16 {
     cases
 }
 
+/// A bit of its own for each case, in `Spelling::cases`.
 #[inline(always)]
 pub(crate) fn case_bit(case: Case) -> u16 {
     1 << case as u16

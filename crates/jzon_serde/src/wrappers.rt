@@ -112,8 +112,9 @@ impl Serialize for Json {
     }
 }
 
-/// An integer with the exponent 0, or else the decimal, told as an error's words: these change nothing
-/// in other formats. To them a float follows that means it, or a list as a key, which none takes.
+/// Writes a number with the exponent 0, but not `-0`, as an integer. Any other is told as an
+/// error's words, which only `Events` takes. For other formats a float follows that means it, or a
+/// list as a key, which none takes.
 fn send_number<S: Serializer>(number: Number, out: &mut S) -> Result<(), S::Error> {
     let (positive, mantissa, exponent) = number.as_parts();
     if exponent == 0 && positive {
@@ -197,12 +198,13 @@ impl DeserializeOwned for Exact {
             Kind::Unsigned => Ok(Exact(Number::from(from.u64()?))),
             Kind::Signed => Ok(Exact(Number::from(from.i64()?))),
             Kind::Float => Ok(Exact(fetch_number(alloc, from)?)),
+            // The format's own error, or a float.
             _ => Ok(Exact(fetch_float(from)?)),
         }
     }
 }
 
-/// By its text, which the format of a value has, or else by a float.
+/// By its text, which the format of a value has (`byte_buf`), or else by a float.
 fn fetch_number<F: Format>(
     alloc: Global,
     from: &mut Deserializer<'_, '_, F>,

@@ -22,7 +22,7 @@ const IS_HELD: usize = (1 << 62) + (4 << 40);
 /// With a number of bytes added, fails if the blocks that were there at one time had more.
 const IS_AT_MOST: usize = (1 << 62) + (5 << 40);
 
-/// The largest number of runs of one call. No test needs as many.
+/// The largest number of runs of one call. Only a call of `jzon_serde_tests` needs more.
 pub const RUNS_MAX: usize = 200;
 
 /// Runs of one call. In the first run the first allocation fails, in the next run the second, and

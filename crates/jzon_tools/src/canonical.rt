@@ -6,7 +6,7 @@
 //! are those of doubles: where it has `1e+21` and `1e-7`, a canonical text has `1e21` and
 //! `0.0000001`.
 
-ghost use Rattle.std.specs.Prelude.{◌≡◌, ◌↔◌, ◌⊎◌, [], false, true, IfErr, IfOk, None, OnOk, Some, chars, codes, map, string_bytes};
+ghost use Rattle.std.specs.Prelude.{◌≡◌, ◌↔◌, ◌⊎◌, [], false, true, IfErr, IfOk, None, OnOk, Some, chars, map, string_bytes};
 ghost use Rattle.std.specs.List.{list_any};
 ghost use Rattle.std.specs.Slice.Iter.{iter_rest};
 ghost use Rattle.jzon.specs.Answer.{IsErrorUnlessMemory};
@@ -18,7 +18,7 @@ ghost use Rattle.jzon.specs.View.{view, view_object, view_values};
 ghost use Rattle.jzon_pointer.specs.Errors.{is_not_a_number, memory, not_a_number, Says};
 ghost use Rattle.jzon_pointer.specs.declared.error.What.TheVariants as what;
 ghost use Rattle.jzon_tools.specs.Canonical as canonical;
-ghost use Rattle.jzon_tools.specs.Canonical.{has_nan, have_nan, normal_number, pointed};
+ghost use Rattle.jzon_tools.specs.Canonical.{has_nan, have_nan, normal_number};
 ghost use Rattle.jzon.specs.Reading.{strict_exact};
 ghost use Rattle.jzon_tools.specs.Canonical.{CanonicalLaw, IsCanonicalOf, OneTextLaw};
 

@@ -52,8 +52,8 @@ pub fn update<R, F: FnOnce(&mut JsonValue) -> R>(
     }
 }
 
-/// Puts a new value in the place of the one that a pointer names, and returns the old one. `nests_within`
-/// says beforehand how deep the new one is then.
+/// Puts a new value in the place of the one that a pointer names, and returns the old one.
+/// `nests_within` says beforehand whether the new one is too deep there.
 pub fn replace(
     alloc: Global,
     value: &mut JsonValue,
@@ -193,7 +193,7 @@ pub(crate) fn replace_at(
     update_at(value, path, |place| std::mem::replace(place, new))
 }
 
-/// `insert` in the same way.
+/// `insert` in the same way. Where no value can be put there is none either, so `seek` finds why.
 pub(crate) fn insert_at(
     alloc: Global,
     value: &mut JsonValue,
@@ -352,6 +352,7 @@ enum Unplaced {
     OutOfMemory,
 }
 
+/// The error of `Object::insert`, which fails with `OutOfMemory` only.
 impl From<jzon::Error> for Unplaced {
     ghost from_gives = { λ _ u. u ≡ unplaced.OutOfMemory };
 

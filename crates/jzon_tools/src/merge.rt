@@ -1,7 +1,7 @@
 //! Merge patches (RFC 7396) and layers of a configuration: a value that says what changes in
 //! another one.
 //!
-//! Both are `merged` of specs/Merge.antt, which differ at a null. The change is made in a copy, which
+//! Both are `merged` of specs/Merge.antt, and differ at a null. The change is made in a copy, which
 //! then replaces the value: so an error leaves the value as it was. `merge`, `merge_members` and
 //! `merge_member` call one another; proofs/merge/+merge says what gets smaller: the size of the patch.
 //!
@@ -77,6 +77,7 @@ fn merge(alloc: Global, target: &mut JsonValue, patch: &JsonValue, drops_nulls: 
     };
     match target {
         JsonValue::Object(object) => merge_members(alloc, object, members, drops_nulls),
+        // Any other target counts as an empty object.
         _ => {
             let mut object = Object::new(alloc);
             merge_members(alloc, &mut object, members, drops_nulls)?;
@@ -115,7 +116,7 @@ fn remove_nulls(object: &mut Object, members: &Object, drops_nulls: bool)
     if !drops_nulls || !has_many_nulls(members) {
         return;
     }
-    // The contract of `len` says that no key repeats.
+    // For the proof: the contract of `len` says that no key repeats.
     let _known = object.len().max(members.len());
     object.retain(
         |key: &str, value: &mut JsonValue| -> bool

@@ -4,8 +4,8 @@
 //! `applied` of specs/Patch.antt says what a patch makes of a value, `IsErrorOf` what an error says,
 //! `first_undone` of which operation, and `IsCause` when each cause comes; `applied_within` has the
 //! limits too. The operations change the value itself. It is cloned before the first operation that
-//! may have to be undone, and the clone is put back after an error: tests change nothing, and of the
-//! others each but a move fails without a change, so no clone is made before the last operation.
+//! may have to be undone, and the clone is put back after an error. A test needs none, and the last
+//! operation only if it is a move: each other one fails without a change.
 
 ghost use Rattle.std.specs.Prelude.{◌≡◌, ◌+◌, ◌<◌, ◌≤◌, ◌⊎◌, max, ℕ, List, [], OnOk, OnErr, IfOk, IfErr, IfSome, Err, None, Some, false, true, codes, option_and_then, option_map};
 ghost use Rattle.std.specs.Option.{option_map_or};
@@ -36,7 +36,7 @@ use std::alloc::Global;
 #[derive(Clone, Copy, Debug, PartialEq, Eq)]
 pub struct Limits {
     /// How many non-empty containers may nest at what an operation puts, those around it included. A
-    /// move to a place that is no deeper isn't asked: there it nests as deep as before, or less.
+    /// move to a place that is no deeper isn't tested: there it nests as deep as before, or less.
     pub depth: usize,
     /// How much all that is copied may weigh: 48 for each value, and the bytes of strings and keys.
     pub copied: usize,
@@ -93,8 +93,8 @@ pub fn apply(alloc: Global, value: &mut JsonValue, patch: &JsonValue) -> Result<
 }
 
 /// Applies a patch within these limits. An operation that passes one can't be done, and the cause is
-/// `TooDeep` or `TooLarge`. What is added or copied is walked before it is cloned, and of what is
-/// moved only what gets to a deeper place.
+/// `TooDeep` or `TooLarge`. What an operation clones is walked before, and of what is moved only
+/// what gets to a deeper place.
 ///
 /// ```rust
 /// let limits = Limits {
@@ -179,7 +179,8 @@ fn name(member: Member) -> &'static str
     }
 }
 
-/// Does one operation. Before it may have to be undone, the value is cloned, if it wasn't before.
+/// Does one operation. If it may have to be undone, the value is cloned first, unless `backup` has
+/// a clone. Until then only tests were done (`kept`): so it is cloned as the patch found it.
 fn step(
     alloc: Global,
     value: &mut JsonValue,
@@ -232,7 +233,7 @@ fn op_of(operation: &JsonValue) -> Result<Op, Fault>
     }
 }
 
-/// The text of a member.
+/// The text of a member that has to be a string.
 fn text<'a>(operation: &'a JsonValue, member: Member) -> Result<&'a str, Fault>
     requires { IsText member (view operation.now) }
     ensures ok { IfOk result (λ text. text_at (name_of member) (view operation.now)
@@ -360,7 +361,8 @@ fn cloned(alloc: Global, value: &JsonValue) -> Result<JsonValue, Fault>
     }
 }
 
-/// The pointer of this member leads nowhere.
+/// The fault that the pointer of this member leads nowhere: a function for its clause, which serves
+/// whatever looks a pointer up.
 fn at(member: Member, error: PointerError) -> Fault
     ensures { (path : List ℕ) (u op v : Value) → IsLookup member path u op v
         → entry_at u path ≡ Err error → (path ≡ [] → Takes member op)
@@ -457,7 +459,8 @@ fn duplicate(
     put(alloc, value, path, new)
 }
 
-/// Moves a value. It is walked if the place is deeper: it may nest too deep there, or weigh too much.
+/// Moves a value. If the place is deeper, it is walked, since it may nest too deep there; the limit
+/// on what it weighs bounds these walks.
 fn relocate(
     alloc: Global,
     value: &mut JsonValue,

@@ -32,7 +32,7 @@ pub fn nests_within(value: &JsonValue, depth: usize) -> bool
     }
 }
 
-/// The same of the values in a container.
+/// The same of a container with these values: if there are any, it counts as one itself.
 #[cycle(nests)]
 fn all_nest_within(values: slice::Iter<'_, JsonValue>, depth: usize) -> bool
     ensures { result ≡ list_all (λ v. nat_lt (nest v) depth) (map view (iter_rest values.entry)) }

@@ -116,8 +116,8 @@ impl Object {
         Ok(Object::from_entries(alloc, keys, values)?)
     }
 
-    /// As `from_pairs`, for keys and as many values. Public only for the parser. Inlined like
-    /// `Pairs::from_entries`.
+    /// As `from_pairs`, for keys and as many values. Public only for the parser and `jzon_serde`.
+    /// Inlined like `Pairs::from_entries`.
     #[doc(hidden)]
     #[inline(always)]
     pub fn from_entries(

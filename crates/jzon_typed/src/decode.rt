@@ -56,7 +56,8 @@ pub trait FromJson: Drop {
 }
 
 /// The value that a text means, as this type. The text is read strictly and exactly: a repeated key,
-/// and a number that would be cut or clamped to another value, are errors. Each error has its line and column.
+/// and a number that would be cut or clamped to another value, are errors. Each error has its line
+/// and column, unless memory runs out.
 pub fn from_text<T: FromJson>(alloc: Global, text: &str) -> Result<T, Error>
     ensures value { IfOk result (λ x. MeansSome strict_exact (chars text.now) (λ v. T.gives v x)) }
     ensures error { IfErr result (IsErrorOfText strict_exact text.now) }

@@ -94,7 +94,7 @@ macro_rules! rejected {
 }
 
 /// The arguments, an input that is accepted, and the output.
-macro_rules! pretty {
+macro_rules! done_with {
     ($words:expr, $input:expr, $output:expr $(,)?) => {
         (Some($words), $input, 0, $output, "")
     };
@@ -107,6 +107,7 @@ macro_rules! misused {
     };
 }
 
+/// The arguments of a row: those between the commas, or none.
 fn words_of(alloc: Global, words: Option<&str>) -> Result<Vec<String>, Fail> {
     let mut all = Vec::new(alloc);
     if let Some(words) = words {
@@ -156,7 +157,7 @@ fn expect_rows(rt: &impl Abort, alloc: Global, rows: &[Row<'_>]) -> Result<(), F
     Ok(())
 }
 
-/// Inputs and arguments of each status.
+/// Inputs and arguments of the statuses 0, 1 and 2. For 3 something must fail: see below.
 const LINES_AND_STATUSES: &[Row<'static>] = &[
     done!(TEXT, "-12500\n"),
     done!(b" \t\r\n\x0b\x0cnull \n", "null\n"),
@@ -200,15 +201,15 @@ fn lines_and_statuses(rt: HostRuntime) -> Result<(), Fail> {
 
 /// The forms of `--pretty`.
 const ON_LINES: &[Row<'static>] = &[
-    pretty!(
+    done_with!(
         "--pretty,2",
         b"{\"a\":[1,{}]}",
         "{\n  \"a\": [\n    1,\n    {}\n  ]\n}\n",
     ),
-    pretty!("--pretty,007", b"[1]", "[\n       1\n]\n"),
-    pretty!("--pretty,0", b"[1]", "[\n1\n]\n"),
-    pretty!("--pretty,00001", b"[[],1]", "[\n [],\n 1\n]\n"),
-    pretty!("--pretty,65535", TEXT, "-12500\n"),
+    done_with!("--pretty,007", b"[1]", "[\n       1\n]\n"),
+    done_with!("--pretty,0", b"[1]", "[\n1\n]\n"),
+    done_with!("--pretty,00001", b"[[],1]", "[\n [],\n 1\n]\n"),
+    done_with!("--pretty,65535", TEXT, "-12500\n"),
     misused!("--pretty"),
     misused!("--pretty,65536"),
     misused!("--pretty,000001"),
@@ -235,9 +236,9 @@ const TWICE: &[u8] = b"{\"a\":1,\"a\":2}";
 const STRICT: &[Row<'static>] = &[
     (Some("--strict"), TWICE, 1, "", REPEATED),
     done!(TWICE, "{\"a\":2}\n"),
-    pretty!("--strict", b"{\"a\": 1,\"b\":1}", "{\"a\":1,\"b\":1}\n"),
-    pretty!("--pretty,2,--strict", b"[1]", "[\n  1\n]\n"),
-    pretty!("--strict,--pretty,2", b"[1]", "[\n  1\n]\n"),
+    done_with!("--strict", b"{\"a\": 1,\"b\":1}", "{\"a\":1,\"b\":1}\n"),
+    done_with!("--pretty,2,--strict", b"[1]", "[\n  1\n]\n"),
+    done_with!("--strict,--pretty,2", b"[1]", "[\n  1\n]\n"),
     misused!("--strict,--strict"),
     misused!("--strict,--pretty"),
     misused!("--pretty,--strict"),
@@ -349,7 +350,7 @@ fn prints_hostile_keys(rt: HostRuntime) -> Result<(), Fail> {
 }
 
 /// How a text begins, what is repeated how often, what comes after it, and how many brackets close.
-const TOO_DEEP: &[(&str, &str, usize, &str, usize)] = &[
+const OVER_A_LIMIT: &[(&str, &str, usize, &str, usize)] = &[
     ("8", "0", 32786, "", 0),
     ("0.", "0", 40000, "", 0),
     ("", "[", 100000, "", 0),
@@ -357,7 +358,7 @@ const TOO_DEEP: &[(&str, &str, usize, &str, usize)] = &[
 ];
 
 /// The text exceeds a limit.
-fn expect_too_deep(rt: &impl Abort, alloc: Global, text: &str) -> Result<(), Fail> {
+fn expect_over_a_limit(rt: &impl Abort, alloc: Global, text: &str) -> Result<(), Fail> {
     expect_fault(rt, alloc, text.as_bytes(), "Exceeded depth limit")?;
     let message = "jzonfmt: Exceeded depth limit\n";
     expect_driven(rt, alloc, &(None, text.as_bytes(), 1, "", message))
@@ -366,14 +367,14 @@ fn expect_too_deep(rt: &impl Abort, alloc: Global, text: &str) -> Result<(), Fai
 #[test]
 fn rejects_what_exceeds_the_limits(rt: HostRuntime) -> Result<(), Fail> {
     let alloc = rt.alloc();
-    for (prefix, repeated, count, back, closing) in TOO_DEEP {
+    for (prefix, repeated, count, back, closing) in OVER_A_LIMIT {
         let parts = [
             (*prefix, 1),
             (*repeated, *count),
             (*back, 1),
             ("]", *closing),
         ];
-        expect_too_deep(&rt, alloc, joined(alloc, &parts)?.as_str())?;
+        expect_over_a_limit(&rt, alloc, joined(alloc, &parts)?.as_str())?;
     }
     Ok(())
 }

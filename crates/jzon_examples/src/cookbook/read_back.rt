@@ -2,9 +2,10 @@
 
 ghost use Rattle.std.specs.Prelude.{◌≡◌, IfOk, true};
 ghost use Rattle.jzon_examples.specs.ReadBack.{server};
+ghost use Rattle.jzon_typed.specs.Alike.{AlikeBy};
 
 use jzon::JsonValue;
-use jzon_typed::decode::{Error, Fields, FromJson};
+use jzon_typed::decode::{self, Error, Fields, FromJson, ReadsAlike};
 use jzon_typed::encode::{self, Members, ReadsBack, ToJson};
 use std::alloc::Global;
 use std::result::Result;
@@ -53,9 +54,22 @@ impl ReadsBack for Server {
     ghost taken = { server.taken };
 }
 
+impl ReadsAlike for Server {
+    ghost alike = { server.alike };
+
+    ghost taken_alike = { server.taken_alike };
+}
+
 /// What is read of what is written.
 pub fn copied(alloc: Global, source: &Server) -> Result<Server, Error>
     ensures { IfOk result (λ copy. server.equal copy source.now ≡ true) }
 {
     encode::read_back(alloc, source)
+}
+
+/// Equal values are read as equal servers. It does nothing: the law is its contract.
+pub fn read_alike()
+    ensures { AlikeBy server.gives server.equal }
+{
+    decode::law_of::<Server>();
 }

@@ -30,10 +30,7 @@ pub fn parse_strictly(alloc: Global, text: &str) -> Result<JsonValue> {
 
 /// The value of a text in which at most 16 containers are open at once.
 pub fn parse_flat(alloc: Global, text: &str) -> Result<JsonValue> {
-    match Reading::new(false, 16) {
-        Some(flat) => jzon::parse_as(alloc, text, &flat),
-        None => Err(Error::ExceededDepthLimit),
-    }
+    jzon::parse_as(alloc, text, &Reading::USUAL.with_depth(16))
 }
 
 /// What to print for an error of a file: where it is, the line, and a caret below the character. A

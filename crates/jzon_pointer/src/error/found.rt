@@ -16,11 +16,6 @@ use std::result::Result;
 pub const LONGEST: usize = 40;
 
 /// What a value is that isn't what is expected. It fails only if memory lacks for a string's copy.
-///
-/// ```rust
-/// let found = found_in(alloc, value)?;
-/// return Err(Error::new(alloc, What::Wrong { expected, found }));
-/// ```
 #[cold]
 #[tactic(auto, using(crate::proofs::FoundViews::describing))]
 pub fn found_in(alloc: Global, value: &JsonValue) -> Result<Found, AllocError>
@@ -51,10 +46,6 @@ pub fn found_text(alloc: Global, text: &str) -> Result<Found, AllocError>
 /// Whether digits of a number may have been cut where its text was read (`What::Cut`): the first that
 /// is cut didn't fit a `u64` after the mantissa, which then is a tenth of 2^64 or more. With the
 /// exponent 0 only a fraction can be missing, which doesn't count (docs/TOOLS.md, "Typed reading").
-///
-/// ```rust
-/// Some(_) if may_be_cut(number) => Err(self.cut(number)),
-/// ```
 pub fn may_be_cut(number: Number) -> bool
     ensures { result ≡ may_be_cut number }
 {

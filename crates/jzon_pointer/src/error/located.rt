@@ -12,8 +12,8 @@ use jzon::{Place, Reading};
 use std::alloc::Global;
 
 impl Error {
-    /// This error with its place in the text of which the value was read, and by which reading. That
-    /// of a missing entry is its object's, and that of an unknown one its key's. The place of a text's
+    /// This error with its place in the text of which the value was read by this reading. That of a
+    /// missing entry is its object's, and that of an unknown one its key's. The place of a text's
     /// own error stays, and there is none if memory runs out while it is looked for.
     ///
     /// ```rust
@@ -32,7 +32,7 @@ impl Error {
     }
 }
 
-/// Where the value or the key is that the error's pointer names.
+/// Where the value or the key is that the error's pointer names; `None` of a text's own error.
 #[tactic(auto, using(crate::proofs::PlacedSteps::placing))]
 fn place_in(alloc: Global, error: &Error, text: &str, reading: &Reading) -> Option<Place>
     ensures place { IfSome result (IsPlaceIn text.now) }
@@ -45,7 +45,7 @@ fn place_in(alloc: Global, error: &Error, text: &str, reading: &Reading) -> Opti
     }
 }
 
-/// Where it is of what went wrong at a pointer.
+/// The place of `what`, which went wrong at a pointer.
 #[tactic(auto, using(crate::proofs::PlacedSteps::placing))]
 fn place_at(
     alloc: Global,
@@ -64,7 +64,7 @@ fn place_at(
     }
 }
 
-/// The pointer without its last token.
+/// The pointer without its last token: the token of a key has no slash.
 fn parent(pointer: &str) -> &str
     ensures { (q k : List ℕ) → pointer.now ≡ q ++ 47 ∷ escaped k → result.now ≡ q }
 {

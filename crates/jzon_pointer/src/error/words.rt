@@ -1,6 +1,6 @@
 //! What an error prints, part by part. Each part is of a bounded length.
 
-ghost use Rattle.std.specs.Prelude.{◌≡◌, Some};
+ghost use Rattle.std.specs.Prelude.{Some};
 ghost use Rattle.std.specs.Fmt.{WritesOnOk};
 ghost use Rattle.jzon_pointer.specs.Errors.{count_text, at_text, in_member_text, in_operation_text, lost_text, pointer_words, text_words, what_words, words_text};
 
@@ -11,7 +11,7 @@ use crate::{PointerError, Reason};
 use std::fmt;
 
 /// A number in a message. A clause knows no range of a number inside an `Error`, so `count_text`
-/// shows only one that fits a `usize`, as each does: then each part is of a bounded length.
+/// shows only one that fits a `usize`, as each does: so each part is bounded.
 #[derive(Clone, Copy)]
 pub struct Count(pub usize);
 
@@ -147,7 +147,7 @@ fn show_pointer_words<W: fmt::Write>(
     }
 }
 
-/// Why the token names nothing in the value that is called so.
+/// Why the token names nothing in the value that the message calls `parent`.
 fn show_reason<W: fmt::Write>(
     f: &mut fmt::Formatter<W>,
     reason: &Reason,

@@ -68,7 +68,7 @@ fn sorted_object(alloc: Global, object: &Object) -> Result<Object>
     Ok(copy)
 }
 
-/// The entries of the object, sorted by their keys.
+/// The entries of the object, sorted by their keys: strictly, because no key repeats.
 pub(super) fn sorted_entries<'a>(
     alloc: Global,
     object: &'a Object,

@@ -40,7 +40,7 @@ pub fn diff(alloc: Global, old: &JsonValue, new: &JsonValue) -> Result<Option<Js
     }
 }
 
-/// The object, or the one without entries where there is another value or none.
+/// The object. Where there is another value or none, the one without entries, as a merge takes it.
 #[tactic(auto, using(crate::proofs::Merges::merges))]
 fn object_of<'v>(value: Option<&'v JsonValue>, none: &'v Object) -> &'v Object
     requires { entries_of none.now ≡ [] }
@@ -71,7 +71,7 @@ fn members(alloc: Global, from: &Object, to: &Object) -> Result<Option<Object>>
         → NoneMergesInto (view_object from.now) (view_object to.now)) }
     ensures memory { IsOkUnless result Error.OutOfMemory }
 {
-    // The contract of `len` says that no key repeats.
+    // For the proof: the contract of `len` says that no key repeats.
     let _known = from.len().max(to.len());
     let mut patch = removed(alloc, from, to)?;
     for (key, value) in to.iter() {
@@ -117,7 +117,7 @@ fn member(
     }
 }
 
-/// The same, of a new value that is no object.
+/// The same, of a new value that is no object. No patch can put a null, since there it removes.
 fn leaf(
     alloc: Global,
     patch: &mut Object,

@@ -1,18 +1,20 @@
 //! The patch that turns one value into another.
 //!
-//! `value`, `members`, `member`, `elements`, `changed` and `element` call one another;
+//! `value`, `members`, `member`, `elements`, `change` and `element` call one another;
 //! proofs/patch/changes/Changes/+diff says what gets smaller: the size of the old value.
+//!
+//! `AddsElements` has two pairs, from which state of an array to which: `(n, i)` has `n` elements
+//! equal to the new ones, and then the old ones from index `i` on.
 
 ghost use Rattle.std.specs.Prelude.{◌≡◌, ◌≤◌, ◌+◌, ◌-◌, ◌<◌, ◌++◌, ◌∷◌, [], ℕ, IfOk, OnOk, IsOkUnless, drop, is_some, length, map, string_bytes, take, true};
 ghost use Rattle.std.specs.Fmt.{decimal};
 ghost use Rattle.std.specs.Option.{option_copied};
 ghost use Rattle.jzon.specs.Entries.{entries_of};
 ghost use Rattle.jzon.specs.PairList.{find};
-ghost use Rattle.jzon.specs.Same.{same, same_items};
+ghost use Rattle.jzon.specs.Same.{same};
 ghost use Rattle.jzon.specs.Value.{Value, array, no_values, values_of};
 ghost use Rattle.jzon.specs.View.{view, viewed, view_object};
 ghost use Rattle.jzon_tools.specs.Diff.{AddsChanges, AddsElements, AddsMember, Adds, AllSame, IsBelow, Removes, Replaces, TurnsInto, operations_of};
-ghost use Rattle.jzon_pointer.specs.Escaped.{escaped};
 
 use jzon::object::Object;
 use jzon::{Error, JsonValue, Result};
@@ -71,7 +73,7 @@ struct Changes {
 impl Changes {
     /// Adds the operations that turn the value at the path into the new one. Elements of arrays, and
     /// members of objects of more than `SMALL_OBJECT`, are compared as a whole first, but only once:
-    /// not if they are parts of values that were compared.
+    /// not if they are parts of values that were (`compared`).
     #[cycle(diff)]
     fn value(&mut self, old: &JsonValue, new: &JsonValue, compared: bool) -> Result<()>
         ensures ok { OnOk result (AddsChanges (string_bytes self.old.path) (view old.now)
@@ -89,7 +91,7 @@ impl Changes {
         }
     }
 
-    /// Adds the replacement of a value by one that differs, as a whole.
+    /// Adds the replacement of a value as a whole, if the new one differs.
     fn whole(&mut self, old: &JsonValue, new: &JsonValue) -> Result<()>
         ensures ok { OnOk result (AddsChanges (string_bytes self.old.path) (view old.now)
             (view new.now) (operations_of self.old) (operations_of self.new)) }
@@ -169,7 +171,7 @@ impl Changes {
 
     /// Adds the operations that change the elements of one array to those of another: between the
     /// equal elements at both ends those that both arrays have are changed, and the others cut or
-    /// added. `cut` or `extend` has nothing to do.
+    /// added. At most one of `cut` and `extend` has something to do.
     #[cycle(diff)]
     fn elements(&mut self, from: &[JsonValue], to: &[JsonValue], compared: bool) -> Result<()>
         ensures ok { OnOk result (AddsChanges (string_bytes self.old.path)
@@ -236,7 +238,8 @@ impl Changes {
     }
 
     /// Adds the operations that remove the elements from one index to another: each at `start`,
-    /// where the next one then is.
+    /// where the next one then is. `from` and `to` are there only for the clauses: by `shorter`,
+    /// arrays of which elements are removed aren't equal.
     fn cut(&mut self, from: &[JsonValue], to: &[JsonValue], start: usize, end: usize) -> Result<()>
         requires range { (start ≤ end) × (end ≤ length from.now) × (start ≤ length to.now) }
         requires shorter { start < end → length to.now < length from.now }
@@ -255,7 +258,9 @@ impl Changes {
         Ok(())
     }
 
-    /// Adds the operations that add the new elements from one index to another.
+    /// Adds the operations that add the new elements from one index to another, each at its index,
+    /// before the old ones from any index `rest` on. `from` and `longer` are there
+    /// as `from` and `shorter` in `cut`.
     fn extend(
         &mut self,
         from: &[JsonValue],
@@ -350,12 +355,12 @@ fn is_much(count: usize, moved: usize) -> bool {
     count.saturating_mul(moved) > MOST_MOVED
 }
 
-/// The value of a key, which is compared with the key at an index before it is looked up: objects
-/// mostly have their keys in one order.
+/// The value of a key. It is first looked for at an index: objects mostly have their keys in one
+/// order.
 fn look<'a>(object: &'a Object, index: usize, key: &str) -> Option<&'a JsonValue>
     ensures { option_copied result ≡ find key.now (entries_of object.now) }
 {
-    // The contract of `len` says that no key repeats.
+    // For the proof: the contract of `len` says that no key repeats.
     let _known = object.len();
     if let Some((there, value)) = object.get_index(index) {
         if there == key {
@@ -419,6 +424,7 @@ fn common_end(from: &[JsonValue], to: &[JsonValue], most: usize) -> usize
     most
 }
 
+/// Primitives are compared before their path is made, which mostly costs more.
 fn is_primitive(value: &JsonValue) -> bool {
     !value.is_object() && !value.is_array()
 }

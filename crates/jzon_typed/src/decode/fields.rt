@@ -22,8 +22,8 @@ use jzon_pointer::names::is_among;
 use std::alloc::Global;
 use std::result::Result;
 
-/// An object that is read by its keys. The pointer of an error leads from this object. For another
-/// one that is read beside it, put the key before by `Error::below_key`.
+/// An object that is read by its keys. The pointer of an error leads from this object: if it is
+/// inside another one, `Error::below_key` puts its key before.
 #[derive(Clone, Copy)]
 pub struct Fields<'v> {
     /// What allocates the results and the errors.
@@ -82,9 +82,9 @@ impl<'v> Fields<'v> {
         }
     }
 
-    /// The value of the entry with this key, read as a type. If the entry is missing, it returns the
-    /// default. If its value is null, it returns the default too, even for a type that takes null:
-    /// so a later layer of a configuration can unset an entry (`merge::layer`).
+    /// The value of the entry with this key, read as a type. If the entry is missing, or its value
+    /// is null, it returns the default, even for a type that takes null: so a later layer of a
+    /// configuration can unset an entry (`merge::layer`).
     pub fn read_or<T: FromJson>(&self, key: &str, default: T) -> Result<T, Error>
         ensures value { IfOk result (λ x.
             (IsAbsent (find key.now (entries (read_from self.now))) × (x ≡ default))

@@ -323,6 +323,7 @@ impl<T: FromJson> FromJson for BTreeMap<String, T> {
     fn from_json(alloc: Global, value: &JsonValue) -> Result<BTreeMap<String, T>, Error> {
         let fields = Fields::of(alloc, value)?;
         let mut map = BTreeMap::new(alloc);
+        // `read` looks the key up again, and puts it before the pointer of an error.
         for key in fields.object.keys() {
             let entry = fields.read(key)?;
             map.insert(String::from_str(alloc, key)?, entry)?;

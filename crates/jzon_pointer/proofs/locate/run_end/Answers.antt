@@ -1,7 +1,7 @@
-use Rattle.jzon_base.proofs.Common.{◌≡◌, ◌≤◌, ◌+◌, ◌∙◌, ap, arith, drop, drop-drop, length, length-drop, prefix_len, take_rest}
+use Rattle.jzon_base.proofs.Common.{◌≤◌, ◌+◌, ◌∙◌, ap, arith, drop, drop-drop, length, length-drop, prefix_len, take_rest}
 use Rattle.jzon.specs.Private.Lines.{is_below}
 use Rattle.jzon_base.proofs.Strings.PlainBlocks.{prefix_ends, prefix_passes}
-use Rattle.jzon_pointer.proofs.LocatePlain.{run_within}
+use Rattle.jzon.proofs.Texts.AsciiRuns.{within_run}
 use Rattle.jzon_pointer.proofs.locate.run_end.Goals as goal
 
 pub returns-then-run-lt-LANES : goal.returns-then-run-lt-LANES
@@ -27,6 +27,6 @@ overflow_add-result-2 c =
     let p = is_below c.args.turn c.args.bound in
     let d = c.args.bytes.now in
     let i = c.loop-at.at in
-    let le : i + c.run_by_bytes.result ≤ length d = run_within p d i c.run_by_bytes.result c.loop-at.invariant.0
+    let le : i + c.run_by_bytes.result ≤ length d = within_run p d i c.run_by_bytes.result c.loop-at.invariant.0
     (c.run_by_bytes.ensures ∙ ap (prefix_len p) (take_rest d i)) in
     omega arith
