@@ -39,10 +39,18 @@ impl Place {
         requires { IsCharBoundary text.now offset }
         ensures { result ≡ place_at text.now offset }
     {
+        let prefix = &text[..offset];
+        let line = line_after(prefix);
+        // In the first line no newline is looked for.
+        let column = if line == 1 {
+            characters(prefix) + 1
+        } else {
+            column_after(prefix)
+        };
         Place {
             offset,
-            line: line_after(&text[..offset]),
-            column: column_after(&text[..offset]),
+            line,
+            column,
         }
     }
 }

@@ -1,5 +1,5 @@
 -- The column after a prefix of a text, by its last newline.
-use Rattle.jzon_base.proofs.Common.{◌≡◌, ℕ, zero, suc, ◌+◌, ◌-◌, ◌<◌, ◌≤◌, Bool, true, List, [], ◌∷◌, ◌++◌, length}
+use Rattle.jzon_base.proofs.Common.{◌≡◌, ℕ, zero, suc, ◌+◌, ◌-◌, ◌<◌, ◌≤◌, Bool, true, false, cond, count_by, List, [], ◌∷◌, ◌++◌, length}
 use Rattle.jzon_base.proofs.Common.{take, drop, get_or, refl, sym, ap, subst, ◌∙◌, arith, take-append-drop, not, ◌==◌}
 use Rattle.jzon_base.proofs.Common.{chars, IsUtf8, IsCharBoundary, get_or-append-add, chars-append, chars_past_char}
 use Rattle.jzon_base.proofs.Common.{chars_from_encodes, IsUtf8-take, IsUtf8-drop, get_or-append_seam}
@@ -7,8 +7,8 @@ use Rattle.std.specs.Str.{NonePass, NoCharPasses}
 use Rattle.std.specs.Str.Pattern.{HasCharAt}
 use Rattle.std.specs.List.{suffix_len}
 use Rattle.std.proofs.lemmas.List.{length-append}
-use Rattle.std.proofs.lemmas.List.Sums.{suffix_len_is}
-use Rattle.jzon.specs.Fault.{column}
+use Rattle.std.proofs.lemmas.List.Sums.{suffix_len_is, sum_by-cons}
+use Rattle.jzon.specs.Fault.{column, line}
 use Rattle.jzon.proofs.Texts.ByteCounts.{is_newline}
 
 abbrev is_in_line : ℕ → Bool
@@ -62,3 +62,17 @@ column_of_last_line bs i j u none at from to =
     on_last_line (chars (take i bs)) (chars (drop j bs)) (characters_of (drop j bs) (IsUtf8-drop bs j u to) none)
     in
     rw (split, line, same)
+
+-- no newline is counted, so none passes
+none_of_count : (b : Bool) (n : ℕ) → cond b 1 0 + n ≡ 0 → (b ≡ false) × (n ≡ 0)
+none_of_count true n e = absurd (omega (arith, e))
+none_of_count false n e = (refl, omega (arith, e))
+
+none_counted : (cs : List ℕ) → count_by is_newline cs ≡ 0 → NonePass is_newline cs
+none_counted [] e = tt
+none_counted (c ∷ cs) e =
+    let h = none_of_count (is_newline c) (count_by is_newline cs) (sym (sum_by-cons (λ y. cond (is_newline y) 1 0) c cs) ∙ e) in
+    (h.0, none_counted cs h.1)
+
+pub column_in_first_line : (cs : List ℕ) → line cs ≡ 1 → column cs ≡ length cs + 1
+column_in_first_line cs e = ap (λ n. n + 1) (on_one_line cs (none_counted cs (omega (arith, e))))
