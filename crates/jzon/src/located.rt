@@ -12,7 +12,7 @@ use jzon_base::error::{Error, io_error};
 use std::{fmt, io};
 
 /// Why `parse_located` rejects a text, and where. `place` is `None` only for `OutOfMemory`.
-#[derive(Debug, PartialEq, Eq, Drop)]
+#[derive(Clone, Debug, PartialEq, Eq, Drop)]
 pub struct LocatedError {
     pub error: Error,
     pub place: Option<Place>,

@@ -14,7 +14,7 @@ use std::{fmt, io};
 
 /// Why a text is rejected, or a call on a value fails. Below, `L` and `K` are the line and the
 /// column of a character in its text. Both are counted from 1, and a column in characters.
-#[derive(Debug, PartialEq, Eq, Drop)]
+#[derive(Clone, Debug, PartialEq, Eq, Drop)]
 pub enum Error {
     /// The character `ch` isn't allowed here. Printed as `Unexpected character: C at (L:K)`, where
     /// `C` is the character itself, not escaped: a newline is printed as a newline.

@@ -66,6 +66,7 @@ fn messages(rt: HostRuntime) -> std::result::Result<(), Fail> {
     ];
     for (error, message, kind) in rows {
         expect_display(&rt, rt.alloc(), &error, message)?;
+        expect(&rt, message, error.clone()? == error);
         let raised = io::Error::from(error);
         expect_eq(&rt, message, raised.kind(), kind);
         let kept = format!(in rt.alloc(); "{raised}")?;

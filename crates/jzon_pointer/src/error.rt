@@ -34,14 +34,14 @@ use words::{show_member, show_operation, show_position};
 /// Its message is one line of at most 1,000 bytes, whatever a stranger sent: characters that aren't
 /// seen, or turn the line, are escaped as in JSON, and long texts are cut, with `..`. It owns what it
 /// names, so `?` keeps everything. An error for which there is no memory becomes `Error::MEMORY`.
-#[derive(PartialEq, Eq, Drop)]
+#[derive(Clone, PartialEq, Eq, Drop)]
 pub struct Error {
     inner: Inner,
 }
 
 /// A text's error is as `jzon` returns it, so that `?` needs no allocator. What others say is in a box,
 /// so that a success moves little. That of a NaN is told apart even if there is no memory for the box.
-#[derive(PartialEq, Eq, Drop)]
+#[derive(Clone, PartialEq, Eq, Drop)]
 enum Inner {
     Memory,
     NotANumber,
@@ -374,47 +374,6 @@ impl fmt::Debug for Error {
 }
 
 impl std::error::Error for Error {}
-
-impl Clone for Error {
-    fn clone(&self) -> Result<Error, AllocError> {
-        let inner = match &self.inner {
-            Inner::Memory => Inner::Memory,
-            Inner::NotANumber => Inner::NotANumber,
-            Inner::Text(located) => Inner::Text(LocatedError {
-                error: copied(&located.error)?,
-                place: located.place,
-            }),
-            Inner::Boxed(report) => Inner::Boxed(report.clone()?),
-        };
-        Ok(Error { inner })
-    }
-}
-
-/// A copy of a text's error, which has no `Clone`.
-fn copied(error: &jzon::Error) -> Result<jzon::Error, AllocError> {
-    Ok(match error {
-        jzon::Error::UnexpectedCharacter { ch, line, column } => {
-            jzon::Error::UnexpectedCharacter {
-                ch: *ch,
-                line: *line,
-                column: *column,
-            }
-        }
-        jzon::Error::UnexpectedEndOfJson => jzon::Error::UnexpectedEndOfJson,
-        jzon::Error::ExceededDepthLimit => jzon::Error::ExceededDepthLimit,
-        jzon::Error::FailedUtf8Parsing => jzon::Error::FailedUtf8Parsing,
-        jzon::Error::WrongType(word) => jzon::Error::WrongType(word.clone()?),
-        jzon::Error::OutOfMemory => jzon::Error::OutOfMemory,
-        jzon::Error::DuplicateKey { line, column } => jzon::Error::DuplicateKey {
-            line: *line,
-            column: *column,
-        },
-        jzon::Error::InexactNumber { line, column } => jzon::Error::InexactNumber {
-            line: *line,
-            column: *column,
-        },
-    })
-}
 
 /// So that `?` works on what parses a text with its place.
 impl From<LocatedError> for Error {
