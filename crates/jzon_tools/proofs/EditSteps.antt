@@ -1,5 +1,5 @@
 -- What is seen of an object or an array when a child is inserted or removed.
-use Rattle.std.proofs.Common.{◌≡◌, ℕ, zero, suc, List, [], ◌∷◌, length, map, Option, None, Some, option_map, option_and_then, slice_get}
+use Rattle.std.proofs.Common.{◌≡◌, ℕ, zero, suc, ◌-◌, List, [], ◌∷◌, length, map, Option, None, Some, option_map, option_and_then, slice_get}
 use Rattle.std.proofs.Common.{Bool, true, false, nat_lt, if◌then◌else◌, refl, sym, ap, ◌∙◌, arith}
 use Rattle.std.proofs.lemmas.Bool.Decides.{nat_tests}
 use Rattle.std.proofs.lemmas.List.{length-map}
@@ -15,7 +15,8 @@ use Rattle.jzon.specs.Value.{Value, ValuePairs, null, boolean, text, number, arr
 use Rattle.jzon.specs.View.{view, viewed, view_object}
 use Rattle.jzon.proofs.ValueLaws.{list_of_pairs-pairs_of, viewed-put, viewed-cut, find-viewed, list_of_values-values_of}
 use Rattle.jzon_pointer.specs.Pointer.{index_named, token_key, child_of, new_index, with_new, without}
-use Rattle.jzon_pointer.proofs.PlaceSteps.{array_seen}
+use Rattle.jzon_pointer.proofs.PlaceSteps.{array_seen, elements-counted}
+use Rattle.jzon_tools.specs.Patch.{shifted_new, shifted_out}
 
 module _ {X Y : Type 0} (f : X → Y) where
   map-insert : (xs : List X) (i : ℕ) (y : X) → map f (insert xs i y) ≡ insert (map f xs) i (f y)
@@ -110,6 +111,24 @@ pub member-removed : (o : Object) (t : List ℕ) (r : Option JsonValue) (qs : Li
     → without (view_object o) t ≡ option_map (λ c. object (pairs_of (viewed qs))) r
 member-removed o t r qs there left =
     cut_by (entries_of o) (token_key t) ∙ cut_result (entries_of o) qs r (token_key t) there left
+
+-- ---- what is shifted
+
+pub shifted-element : (items : List JsonValue) (t : List ℕ) (n i : ℕ) → length items ≡ n → new_index t n ≡ Some i
+    → shifted_new (array_seen items) t ≡ n - i
+shifted-element items t n i long at =
+    ap (λ m. option_map_or (λ j. m - j) (new_index t m) 0) (elements-counted items ∙ long)
+    ∙ ap (λ o. option_map_or (λ j. n - j) o 0) at
+
+pub shifted-behind : (items : List JsonValue) (t : List ℕ) (i : ℕ) → index_named t ≡ Some i
+    → shifted_out (array_seen items) t ≡ length items - suc i
+shifted-behind items t i named =
+    ap (λ n. option_map_or (λ j. n - suc j) (index_named t) 0) (elements-counted items)
+    ∙ ap (λ o. option_map_or (λ j. length items - suc j) o 0) named
+
+pub shifted-members : (o : Object) (t : List ℕ) → shifted_out (view_object o) t ≡ length (entries_of o)
+shifted-members o t =
+    ap length (list_of_pairs-pairs_of (viewed (entries_of o))) ∙ length-map (entries_of o) (λ p. (p.0, view p.1))
 
 -- ---- what can't be inserted isn't there
 

@@ -1,10 +1,14 @@
 -- The last token of a pointer, and those before it.
-use Rattle.std.proofs.Common.{◌≡◌, ℕ, List, [], ◌∷◌, ◌++◌, None, Some, option_and_then, Ok, Err, IsErr}
+use Rattle.std.proofs.Common.{◌≡◌, ℕ, suc, ◌+◌, length, List, [], ◌∷◌, ◌++◌, Option, None, Some, option_and_then, Ok, Err, IsErr}
 use Rattle.std.proofs.Common.{get_or, refl, sym, ap, ◌∙◌, subst, arith}
+use Rattle.std.proofs.lemmas.Option.{none-some, same_Some}
+use Rattle.std.specs.Option.{option_map_or}
+use Rattle.std.specs.Result.{result_ok}
 use Rattle.jzon.specs.Value.{Value}
 use Rattle.jzon_pointer.specs.Pointer.{tokens_of, child_of, found, value_at, entry_at, changed, with_new, inserted_at, without, removed_at, ChangesAt, IsLast, LacksAt}
 use Rattle.jzon_pointer.specs.declared.pointer.PointerError.{PointerError}
-use Rattle.jzon_pointer.proofs.ChangeLaws.{changes-kept, changed-some, changed-none, changed-lacks, found-child, lacks-last, lacks-child}
+use Rattle.jzon_pointer.proofs.ChangeLaws.{changes-kept, changed-some, changed-none, changed-lacks, found-below, found-child, found-none, lacks-last, lacks-child}
+use Rattle.jzon_tools.specs.Patch.{at_last, shifted_at}
 use Rattle.jzon_tools.proofs.EditSteps.{no_new-no_child}
 use Rattle.jzon_pointer.proofs.PlaceSteps.{value-of-tokens}
 use Rattle.jzon_pointer.proofs.TokenSteps.{Lacks, tokens-parent, no_slash}
@@ -20,6 +24,26 @@ is-last path parent t ts cut lacks e = record {
   entry = λ v. subst (λ p. entry_at v p ≡ value_at v p) (sym cut) (entry-value v parent t);
 }
 
+-- ---- what a change of the last token shifts
+
+last-onto : (f : Value → List ℕ → ℕ) (v : Value) (u t : List ℕ) (us : List (List ℕ))
+    → at_last f v (u ∷ (us ++ t ∷ [])) ≡ option_map_or (λ c. at_last f c (us ++ t ∷ [])) (child_of v u) 0
+last-onto f v u t [] = refl
+last-onto f v u t (x ∷ xs) = refl
+
+last-found_by : (o : Option Value) (f : Value → List ℕ → ℕ) (t u : List ℕ) (us : List (List ℕ)) (i : ℕ) (v old : Value)
+    → ((j : ℕ) (w : Value) → found j w us ≡ Ok old → at_last f w (us ++ t ∷ []) ≡ f old t)
+    → child_of v u ≡ o → found i v (u ∷ us) ≡ Ok old
+    → option_map_or (λ c. at_last f c (us ++ t ∷ [])) o 0 ≡ f old t
+last-found_by None f t u us i v old ih at h = absurd (none-some old (ap result_ok (sym (found-none i v u us at) ∙ h)))
+last-found_by (Some c) f t u us i v old ih at h = ih (suc (i + length u)) c (sym (found-below i v u us c at) ∙ h)
+
+last-found : (f : Value → List ℕ → ℕ) (t : List ℕ) (ts : List (List ℕ)) (old : Value) (i : ℕ) (v : Value)
+    → found i v ts ≡ Ok old → at_last f v (ts ++ t ∷ []) ≡ f old t
+last-found f t [] old i v h = ap (λ w. f w t) (same_Some v old (ap result_ok h))
+last-found f t (u ∷ us) old i v h =
+    last-onto f v u t us ∙ last-found_by (child_of v u) f t u us i v old (last-found f t us old) refl h
+
 module _ {path : List ℕ} {ts : List (List ℕ)} {t : List ℕ} (last : IsLast path ts t) where
   at-last : (v : Value) → value_at v path ≡ found 1 v (ts ++ t ∷ [])
   at-last v = value-of-tokens v path (ts ++ t ∷ []) last.tokens
@@ -27,6 +51,11 @@ module _ {path : List ℕ} {ts : List (List ℕ)} {t : List ℕ} (last : IsLast 
   pub entry-found : (v old new w c : Value) → ChangesAt v ts old new w → child_of old t ≡ Some c
       → entry_at v path ≡ Ok c
   entry-found v old new w c h at = last.entry v ∙ at-last v ∙ found-child t ts 1 v old c (h.0 1) at
+
+  pub shifted : (f : Value → List ℕ → ℕ) (v old new w : Value) → ChangesAt v ts old new w
+      → shifted_at f v path ≡ f old t
+  shifted f v old new w h =
+      ap (λ o. option_map_or (at_last f v) o 0) last.tokens ∙ last-found f t ts old 0 v (h.0 0)
 
   -- nothing is there, and nothing was changed
   pub nothing-there : (v old new w : Value) → ChangesAt v ts old new w → child_of old t ≡ None → new ≡ old

@@ -1,5 +1,5 @@
 -- The steps of a patch: where a pointer names nothing, nothing can be changed.
-use Rattle.std.proofs.Common.{◌≡◌, ℕ, suc, ◌+◌, length, List, [], ◌∷◌, Option, None, Some, option_map, option_and_then, Ok, Err}
+use Rattle.std.proofs.Common.{◌≡◌, ◌⊎◌, inl, inr, ℕ, suc, ◌+◌, length, List, [], ◌∷◌, Option, None, Some, option_map, option_and_then, Ok, Err}
 use Rattle.std.proofs.Common.{refl, ap}
 use Rattle.std.specs.Option.{ok_or}
 use Rattle.jzon.specs.PairList.{find, cut}
@@ -9,6 +9,8 @@ use Rattle.jzon.specs.Value.{Value, null, boolean, text, number, array, object, 
 use Rattle.jzon_pointer.specs.Pointer.{index_named, token_key, child_of, with_child, missing, tokens_of, found, and_then, value_at, entry_at, updated, updated_at, changed, without, removed_at}
 use Rattle.jzon_pointer.specs.declared.pointer.PointerError.{PointerError}
 use Rattle.jzon_pointer.specs.declared.pointer.PointerError.TheVariants.{NoSlash}
+use Rattle.jzon_tools.specs.declared.edit.Refused.{Refused}
+use Rattle.jzon_tools.specs.declared.edit.Refused.TheVariants.{Lost, TooMany}
 
 updated-missing_by : (f : Value → Option Value) (o : Option Value) (j : ℕ) (v : Value) (t : List ℕ) (ts : List (List ℕ))
     (x e : PointerError) → ((c : Value) → found j c ts ≡ Err e → updated f c ts ≡ None)
@@ -76,6 +78,13 @@ removed-nowhere_by (Some ts) v e h = removed-missing ts 1 v e h
 pub removed-nowhere : (v : Value) (path : List ℕ) (e : PointerError) → entry_at v path ≡ Err e → removed_at v path ≡ None
 removed-nowhere v [] e h = refl
 removed-nowhere v (c ∷ cs) e h = removed-nowhere_by (tokens_of (c ∷ cs)) v e h
+
+-- where a removal is refused, since the pointer names nothing
+pub removal-lost : (v : Value) (path : List ℕ) (e : Refused) (error : PointerError) → e ≡ Lost error
+    → (e ≡ TooMany) ⊎ ((lost : PointerError) × (e ≡ Lost lost) × (entry_at v path ≡ Err lost))
+    → removed_at v path ≡ None
+removal-lost v path e error is (inl h) = absurd (cc)
+removal-lost v path e error is (inr h) = removed-nowhere v path h.0 h.2
 
 pub entry-nowhere : (v : Value) (path : List ℕ) (e : PointerError) → value_at v path ≡ Err e → entry_at v path ≡ Err e
 entry-nowhere v [] e h = absurd (cc)

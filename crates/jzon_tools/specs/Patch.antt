@@ -8,8 +8,9 @@ use Rattle.std.specs.Str.{bytes_eq}
 use Rattle.jzon.specs.PairList.{find}
 use Rattle.jzon.specs.Readers.{entries, is_object, text_in}
 use Rattle.jzon.specs.Same.{same}
-use Rattle.jzon.specs.Value.{Value, array, Values, no_values, value, nest}
+use Rattle.jzon.specs.Value.{Value, array, object, Values, no_values, value, nest, list_of_values, list_of_pairs}
 use Rattle.jzon_pointer.specs.Pointer.{value_at, entry_at, inserted_at, removed_at, updated_at, slashes}
+use Rattle.jzon_pointer.specs.Pointer.{tokens_of, child_of, index_named, new_index}
 use Rattle.jzon_pointer.specs.Errors.{memory, what_of, SaysOrMemory}
 use Rattle.jzon_pointer.specs.declared.error.Error.{Error}
 use Rattle.jzon_pointer.specs.declared.error.What.TheVariants as what
@@ -139,7 +140,45 @@ abbrev pub moved_by : Op → List ℕ → Value → Value → ℕ
 moved_by Move path op v = option_map_or weight (placed_by Move path op v) 0
 moved_by _ path op v = 0
 
--- the same of an operation as it stands in a patch; 0 if it has no meaning or no `path`
+-- how many elements or entries change their places when the child that a token names is removed: those behind an
+-- element, and all entries of an object, whose index is numbered anew
+abbrev pub shifted_out : Value → List ℕ → ℕ
+shifted_out (array vs) t = option_map_or (λ i. length (list_of_values vs) - suc i) (index_named t) 0
+shifted_out (object ps) t = length (list_of_pairs ps)
+shifted_out v t = 0
+
+-- the same, when a new child that a token names is inserted
+abbrev pub shifted_new : Value → List ℕ → ℕ
+shifted_new (array vs) t =
+    option_map_or (λ i. length (list_of_values vs) - i) (new_index t (length (list_of_values vs))) 0
+shifted_new v t = 0
+
+-- f of the last token, and of the value to which those before it lead; 0 if they lead to none
+abbrev pub at_last : (Value → List ℕ → ℕ) → Value → List (List ℕ) → ℕ
+at_last f v [] = 0
+at_last f v (t ∷ []) = f v t
+at_last f v (t ∷ u ∷ ts) = option_map_or (λ c. at_last f c (u ∷ ts)) (child_of v t) 0
+
+-- the same of a pointer
+abbrev pub shifted_at : (Value → List ℕ → ℕ) → Value → List ℕ → ℕ
+shifted_at f v path = option_map_or (at_last f v) (tokens_of path) 0
+
+-- how many a move shifts: none where it stays, and else those behind the old place, and then those behind the new one
+abbrev pub shifted_move : Value → List ℕ → List ℕ → ℕ
+shifted_move v from path =
+    if bytes_eq from path then 0
+    else shifted_at shifted_out v from + option_map_or (λ u. shifted_at shifted_new u path) (removed_at v from) 0
+
+-- how many elements and entries an operation with this meaning shifts
+abbrev pub shifted_by : Op → List ℕ → Value → Value → ℕ
+shifted_by Add path op v = shifted_at shifted_new v path
+shifted_by Remove path op v = shifted_at shifted_out v path
+shifted_by Replace path op v = 0
+shifted_by Move path op v = option_map_or (λ from. shifted_move v from path) (text_at (codes "from") op) 0
+shifted_by Copy path op v = shifted_at shifted_new v path
+shifted_by Test path op v = 0
+
+-- how many containers nest at what an operation puts, as it stands in a patch; 0 if it has no meaning or no `path`
 abbrev pub depth_in : Value → Value → ℕ
 depth_in op v = option_map_or (λ o. option_map_or (λ path. depth_by o path op v) (text_at (codes "path") op) 0) (op_of op) 0
 
@@ -151,15 +190,24 @@ copied_in op v = option_map_or (λ o. copied_by o op v) (op_of op) 0
 abbrev pub moved_in : Value → Value → ℕ
 moved_in op v = option_map_or (λ o. option_map_or (λ path. moved_by o path op v) (text_at (codes "path") op) 0) (op_of op) 0
 
+-- how many elements and entries it shifts
+abbrev pub shifted_in : Value → Value → ℕ
+shifted_in op v = option_map_or (λ o. option_map_or (λ path. shifted_by o path op v) (text_at (codes "path") op) 0) (op_of op) 0
+
 -- whether an operation keeps within limits
 abbrev pub is_within : Limits → Value → Value → Bool
 is_within l op v =
     nat_le (depth_in op v) l.depth && nat_le (copied_in op v) l.copied && nat_le (moved_in op v) l.moved
+    && nat_le (shifted_in op v) l.shifted
 
 -- what an operation leaves of limits
 abbrev pub left_after : Limits → Value → Value → Limits
-left_after l op v =
-    record { depth = l.depth; copied = l.copied - copied_in op v; moved = l.moved - moved_in op v }
+left_after l op v = record {
+  depth = l.depth;
+  copied = l.copied - copied_in op v;
+  moved = l.moved - moved_in op v;
+  shifted = l.shifted - shifted_in op v;
+}
 
 -- v after an operation that keeps within limits
 abbrev pub operated_within : Limits → Value → Value → Option Value
@@ -177,7 +225,7 @@ applied_within l _ v = None
 
 -- the limits of `apply`
 abbrev pub usual : Limits
-usual = record { depth = 512; copied = 16777216; moved = 67108864 }
+usual = record { depth = 512; copied = 16777216; moved = 67108864; shifted = 67108864 }
 
 -- an operation that can't be done within what is left of limits, its number, and the value before it
 pub record Undone : Type 0 where
@@ -281,7 +329,8 @@ IsCause (Operation UnknownOp) l op v = (s : List ℕ) × (text_at (codes "op") o
 IsCause (Operation TestFailed) l op v = TestFails op v
 IsCause (Operation IntoItself) l op v = MovesIntoItself op
 IsCause (Operation TooDeep) l op v = l.depth < depth_in op v
-IsCause (Operation TooLarge) l op v = (l.copied < copied_in op v) ⊎ (l.moved < moved_in op v)
+IsCause (Operation TooLarge) l op v =
+    (l.copied < copied_in op v) ⊎ ((l.moved < moved_in op v) ⊎ (l.shifted < shifted_in op v))
 IsCause (Pointer m error) l op v =
     (path : List ℕ) × (u : Value) × IsLookup m path u op v × (entry_at u path ≡ Err error)
     × (path ≡ [] → Takes m op)
@@ -330,7 +379,7 @@ pub record IsErrorOf (l : Limits) (patch v : Value) (e : Error) : Type 0 where
 -- ---- what a step returns
 
 -- w is what there is to be, or there is nothing to be; or it was refused
-abbrev pub IsDone : Option Value → Value → Result (Unit {0}) Fault → Type 0
+abbrev pub IsDone : {A : Type 0} → Option Value → Value → Result A Fault → Type 0
 IsDone o w (Ok _) = o ≡ Some w
 IsDone o w (Err e) = (is_refusal e ≡ true) ⊎ (o ≡ None)
 

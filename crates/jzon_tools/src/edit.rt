@@ -4,7 +4,7 @@
 //! inside a value, but not what is written through a returned reference. Where it finds nothing,
 //! nothing was changed, and `seek` then says why.
 
-ghost use Rattle.std.specs.Prelude.{◌≡◌, ◌≤◌, ◌+◌, ◌⊎◌, ◌∷◌, ℕ, max, nat_le, List, OnOk, OnErr, IfOk, IfErr, IfSome, IsErr, Ok, Err, None, Some, map, option_map};
+ghost use Rattle.std.specs.Prelude.{◌≡◌, ◌≤◌, ◌<◌, ◌+◌, ◌-◌, ◌^◌, ◌⊎◌, ◌∷◌, ℕ, max, nat_le, List, OnOk, OnErr, IfOk, IfErr, IfSome, IsErr, Ok, Err, None, Some, map, option_map};
 ghost use Rattle.std.specs.Fn.{FnOnceReturnsAtMut};
 ghost use Rattle.std.specs.Option.{option_copied};
 ghost use Rattle.jzon.specs.JsonValue.{JsonValue as Json};
@@ -13,8 +13,10 @@ ghost use Rattle.jzon.specs.View.{view, view_object};
 ghost use Rattle.jzon_pointer.specs.Errors.{memory, IsLost, SaysOrMemory};
 ghost use Rattle.jzon_pointer.specs.Pointer.{child_of, entry_at, inserted_at, new_index, removed_at, slashes, tokens_left, updated_at, value_at, with_new, without, ChangesAt, IsLast, LacksAt};
 ghost use Rattle.jzon_pointer.specs.declared.error.What.TheVariants as what;
-ghost use Rattle.jzon_tools.specs.declared.edit.Refused.TheVariants.{Lost, OutOfMemory};
+ghost use Rattle.jzon_tools.specs.Patch.{shifted_at, shifted_new, shifted_out};
+ghost use Rattle.jzon_tools.specs.declared.edit.Refused.TheVariants.{Lost, OutOfMemory, TooMany};
 ghost use Rattle.jzon_tools.specs.declared.edit.Unplaced.TheVariants as unplaced;
+ghost use Rattle.jzon_tools.specs.declared.edit.Unremoved.TheVariants as unremoved;
 
 use crate::weight;
 use jzon::JsonValue;
@@ -89,10 +91,12 @@ pub fn insert(alloc: Global, value: &mut JsonValue, path: &str, new: JsonValue) 
         ⊎ ((inserted_at (view new) (view value.old) path.now ≡ None)
         × IsLost (entry_at (view value.old) path.now) path.now e)) }
 {
-    match insert_at(alloc, value, path, new) {
-        Ok(()) => Ok(()),
-        Err(Refused::OutOfMemory) => Err(Error::MEMORY),
+    match insert_at(alloc, value, path, new, usize::MAX) {
+        Ok(_left) => Ok(()),
         Err(Refused::Lost(error)) => Err(lost(alloc, path, error)),
+        Err(Refused::OutOfMemory) => Err(Error::MEMORY),
+        // No array is so long.
+        Err(Refused::TooMany) => unreachable!(),
     }
 }
 
@@ -125,9 +129,11 @@ pub fn remove(alloc: Global, value: &mut JsonValue, path: &str) -> Result<JsonVa
     ensures err { OnErr result (view value.new ≡ view value.old) }
     ensures error { IfErr result (IsLost (entry_at (view value.old) path.now) path.now) }
 {
-    match remove_at(value, path) {
-        Ok(old) => Ok(old),
-        Err(error) => Err(lost(alloc, path, error)),
+    match remove_at(value, path, usize::MAX) {
+        Ok((old, _left)) => Ok(old),
+        Err(Refused::Lost(error)) => Err(lost(alloc, path, error)),
+        // Nothing is allocated, and no container is so long.
+        Err(Refused::OutOfMemory | Refused::TooMany) => unreachable!(),
     }
 }
 
@@ -139,12 +145,14 @@ fn lost(alloc: Global, path: &str, error: PointerError) -> Error
     Error::at_pointer(alloc, path, What::Pointer(error))
 }
 
-/// Why nothing was inserted.
+/// Why nothing was inserted, or removed.
 #[derive(Clone, Copy)]
 pub(crate) enum Refused {
-    /// The pointer names no place for a new value.
+    /// The pointer names no place for a new value, or no value.
     Lost(PointerError),
     OutOfMemory,
+    /// More elements or entries would be shifted than there is room for.
+    TooMany,
 }
 
 impl From<PointerError> for Refused {
@@ -193,44 +201,67 @@ pub(crate) fn replace_at(
     update_at(value, path, |place| std::mem::replace(place, new))
 }
 
-/// `insert` in the same way. Where no value can be put there is none either, so `seek` finds why.
+/// `insert` in the same way, if at most `room` elements are shifted. Returns what is left of it. Where
+/// no value can be put there is none either, so `seek` finds why.
 pub(crate) fn insert_at(
     alloc: Global,
     value: &mut JsonValue,
     path: &str,
     new: JsonValue,
-) -> Result<(), Refused>
+    room: usize,
+) -> Result<usize, Refused>
     ensures ok { OnOk result (inserted_at (view new) (view value.old) path.now
         ≡ Some (view value.new)) }
     ensures depth { OnOk result (nest (view value.new)
         ≤ max (nest (view value.old)) (slashes path.now + nest (view new))) }
+    ensures left { IfOk result (λ left. left + shifted_at shifted_new (view value.old) path.now
+        ≡ room) }
     ensures err { OnErr result (view value.new ≡ view value.old) }
-    ensures error { IfErr result (λ e. (e ≡ OutOfMemory)
+    ensures error { IfErr result (λ e. (e ≡ OutOfMemory) ⊎ ((e ≡ TooMany)
         ⊎ ((lost : PointerError) × (e ≡ Lost lost)
         × (inserted_at (view new) (view value.old) path.now ≡ None)
-        × (entry_at (view value.old) path.now ≡ Err lost))) }
+        × (entry_at (view value.old) path.now ≡ Err lost)))) }
+    ensures many { IfErr result (λ e. e ≡ TooMany
+        → room < shifted_at shifted_new (view value.old) path.now) }
+    ensures most { IfErr result (λ e. e ≡ TooMany → room < 2 ^ 64 - 1) }
 {
     let (left, token) = split_last(path)?;
-    match change_at(value, left, |place| insert_child(alloc, place, token, new)) {
-        Some(Ok(())) => Ok(()),
+    match change_at(
+        value,
+        left,
+        |place| insert_child(alloc, place, token, new, room),
+    ) {
+        Some(Ok(left)) => Ok(left),
         Some(Err(Unplaced::OutOfMemory)) => Err(Refused::OutOfMemory),
+        Some(Err(Unplaced::TooMany)) => Err(Refused::TooMany),
         Some(Err(Unplaced::NoPlace)) => Err(Refused::Lost(why_none(value, path))),
         None => Err(Refused::Lost(why_none(value, path))),
     }
 }
 
 /// `remove` in the same way.
-pub(crate) fn remove_at(value: &mut JsonValue, path: &str) -> Result<JsonValue, PointerError>
-    ensures old { IfOk result (λ old. entry_at (view value.old) path.now ≡ Ok (view old)) }
+pub(crate) fn remove_at(
+    value: &mut JsonValue,
+    path: &str,
+    room: usize,
+) -> Result<(JsonValue, usize), Refused>
+    ensures old { IfOk result (λ r. entry_at (view value.old) path.now ≡ Ok (view r.0)) }
     ensures new { OnOk result (removed_at (view value.old) path.now ≡ Some (view value.new)) }
+    ensures left { IfOk result (λ r. r.1 + shifted_at shifted_out (view value.old) path.now
+        ≡ room) }
     ensures err { OnErr result (view value.new ≡ view value.old) }
-    ensures error { IfErr result (λ e. entry_at (view value.old) path.now ≡ Err e) }
+    ensures error { IfErr result (λ e. (e ≡ TooMany) ⊎ ((lost : PointerError) × (e ≡ Lost lost)
+        × (entry_at (view value.old) path.now ≡ Err lost))) }
+    ensures many { IfErr result (λ e. e ≡ TooMany
+        → room < shifted_at shifted_out (view value.old) path.now) }
+    ensures most { IfErr result (λ e. e ≡ TooMany → room < 2 ^ 64 - 1) }
 {
     let (left, token) = split_last(path)?;
-    match change_at(value, left, |place| remove_child(place, token)) {
-        Some(Some(old)) => Ok(old),
-        Some(None) => Err(why_none(value, path)),
-        None => Err(why_none(value, path)),
+    match change_at(value, left, |place| remove_child(place, token, room)) {
+        Some(Ok(taken)) => Ok(taken),
+        Some(Err(Unremoved::TooMany)) => Err(Refused::TooMany),
+        Some(Err(Unremoved::NoChild)) => Err(Refused::Lost(why_none(value, path))),
+        None => Err(Refused::Lost(why_none(value, path))),
     }
 }
 
@@ -350,6 +381,8 @@ enum Unplaced {
     /// It can have none of this name.
     NoPlace,
     OutOfMemory,
+    /// More of its elements would be shifted than there is room for.
+    TooMany,
 }
 
 /// The error of `Object::insert`, which fails with `OutOfMemory` only.
@@ -377,45 +410,67 @@ impl<T: Drop> From<AllocFailed<T>> for Unplaced {
     }
 }
 
-/// Inserts a child that a token names, if the value can have one of this name.
+/// Inserts a child that a token names, if the value can have one of this name, and at most `room` elements
+/// are shifted. Returns what is left of it.
 #[tactic(auto, using(jzon_pointer::proofs::PlaceSteps::placing))]
 fn insert_child(
     alloc: Global,
     value: &mut JsonValue,
     token: &str,
     new: JsonValue,
-) -> Result<(), Unplaced>
+    room: usize,
+) -> Result<usize, Unplaced>
     ensures ok { OnOk result (with_new (view new) (view value.old) token.now
         ≡ Some (view value.new)) }
+    ensures left { IfOk result (λ left. left + shifted_new (view value.old) token.now ≡ room) }
     ensures err { OnErr result (view value.new ≡ view value.old) }
     ensures error { IfErr result (λ e. e ≡ unplaced.NoPlace
         → with_new (view new) (view value.old) token.now ≡ None) }
+    ensures many { IfErr result (λ e. e ≡ unplaced.TooMany
+        → room < shifted_new (view value.old) token.now) }
+    ensures most { IfErr result (λ e. e ≡ unplaced.TooMany → room < 2 ^ 64 - 1) }
 {
     match value {
-        JsonValue::Array(items) => insert_element(items, token, new),
-        JsonValue::Object(object) => insert_member(alloc, object, token, new),
+        JsonValue::Array(items) => insert_element(items, token, new, room),
+        JsonValue::Object(object) => {
+            insert_member(alloc, object, token, new)?;
+            Ok(room)
+        }
         _ => Err(Unplaced::NoPlace),
     }
 }
 
 /// As `insert_child`, of an array.
-fn insert_element(items: &mut Vec<JsonValue>, token: &str, new: JsonValue) -> Result<(), Unplaced>
+fn insert_element(
+    items: &mut Vec<JsonValue>,
+    token: &str,
+    new: JsonValue,
+    room: usize,
+) -> Result<usize, Unplaced>
     ensures ok { OnOk result (
         with_new (view new) (array (values_of (map view items.old.items))) token.now
         ≡ Some (array (values_of (map view items.new.items)))) }
+    ensures left { IfOk result (λ left.
+        left + shifted_new (array (values_of (map view items.old.items))) token.now ≡ room) }
     ensures err { OnErr result (array (values_of (map view items.new.items))
         ≡ array (values_of (map view items.old.items))) }
     ensures error { IfErr result (λ e. e ≡ unplaced.NoPlace
         → with_new (view new) (array (values_of (map view items.old.items))) token.now ≡ None) }
+    ensures many { IfErr result (λ e. e ≡ unplaced.TooMany
+        → room < shifted_new (array (values_of (map view items.old.items))) token.now) }
+    ensures most { IfErr result (λ e. e ≡ unplaced.TooMany → room < 2 ^ 64 - 1) }
 {
     let Some(index) = new_index(token, items.len()) else {
         return Err(Unplaced::NoPlace);
     };
+    let Some(left) = room.checked_sub(items.len() - index) else {
+        return Err(Unplaced::TooMany);
+    };
     items.insert(index, new)?;
-    Ok(())
+    Ok(left)
 }
 
-/// Puts a value under the key that a token names. A bad escape names none.
+/// Puts a value under the key that a token names. A bad escape names none. No entry is shifted.
 fn insert_member(
     alloc: Global,
     object: &mut Object,
@@ -427,6 +482,7 @@ fn insert_member(
     ensures err { OnErr result (view_object object.new ≡ view_object object.old) }
     ensures error { IfErr result (λ e. e ≡ unplaced.NoPlace
         → with_new (view new) (view_object object.old) token.now ≡ None) }
+    ensures room { IfErr result (λ e. e ≡ unplaced.TooMany → ⊥) }
 {
     if is_plain(token) {
         object.insert(alloc, token, new)?;
@@ -453,44 +509,98 @@ fn new_index(token: &str, len: usize) -> Option<usize>
     if index <= len { Some(index) } else { None }
 }
 
-/// Removes the child that a token names, and returns it.
+/// Why a value lost no child.
+#[derive(Clone, Copy)]
+enum Unremoved {
+    /// It has none of this name.
+    NoChild,
+    /// More of its elements or entries would be shifted than there is room for.
+    TooMany,
+}
+
+/// Removes the child that a token names, if at most `room` elements or entries are shifted. Returns it, and
+/// what is left of `room`.
 #[tactic(auto, using(jzon_pointer::proofs::PlaceSteps::placing))]
-fn remove_child(value: &mut JsonValue, token: &str) -> Option<JsonValue>
-    ensures old { option_map view result ≡ child_of (view value.old) token.now }
-    ensures new { without (view value.old) token.now ≡ option_map (λ _. view value.new) result }
-    ensures kept { result ≡ None → view value.new ≡ view value.old }
+fn remove_child(
+    value: &mut JsonValue,
+    token: &str,
+    room: usize,
+) -> Result<(JsonValue, usize), Unremoved>
+    ensures old { IfOk result (λ r. child_of (view value.old) token.now ≡ Some (view r.0)) }
+    ensures new { OnOk result (without (view value.old) token.now ≡ Some (view value.new)) }
+    ensures left { IfOk result (λ r. r.1 + shifted_out (view value.old) token.now ≡ room) }
+    ensures err { OnErr result (view value.new ≡ view value.old) }
+    ensures error { IfErr result (λ e. e ≡ unremoved.NoChild
+        → child_of (view value.old) token.now ≡ None) }
+    ensures many { IfErr result (λ e. e ≡ unremoved.TooMany
+        → room < shifted_out (view value.old) token.now) }
+    ensures most { IfErr result (λ e. e ≡ unremoved.TooMany → room < 2 ^ 64 - 1) }
 {
     match value {
-        JsonValue::Array(items) => remove_element(items, token),
-        JsonValue::Object(object) => remove_member(object, token),
-        _ => None,
+        JsonValue::Array(items) => remove_element(items, token, room),
+        JsonValue::Object(object) => remove_member(object, token, room),
+        _ => Err(Unremoved::NoChild),
     }
 }
 
 /// As `remove_child`, of an array.
-fn remove_element(items: &mut Vec<JsonValue>, token: &str) -> Option<JsonValue>
-    ensures old { option_map view result
-        ≡ child_of (array (values_of (map view items.old.items))) token.now }
-    ensures new { without (array (values_of (map view items.old.items))) token.now
-        ≡ option_map (λ _. array (values_of (map view items.new.items))) result }
-    ensures kept { result ≡ None → array (values_of (map view items.new.items))
-        ≡ array (values_of (map view items.old.items)) }
+fn remove_element(
+    items: &mut Vec<JsonValue>,
+    token: &str,
+    room: usize,
+) -> Result<(JsonValue, usize), Unremoved>
+    ensures old { IfOk result (λ r.
+        child_of (array (values_of (map view items.old.items))) token.now ≡ Some (view r.0)) }
+    ensures new { OnOk result (without (array (values_of (map view items.old.items))) token.now
+        ≡ Some (array (values_of (map view items.new.items)))) }
+    ensures left { IfOk result (λ r.
+        r.1 + shifted_out (array (values_of (map view items.old.items))) token.now ≡ room) }
+    ensures err { OnErr result (array (values_of (map view items.new.items))
+        ≡ array (values_of (map view items.old.items))) }
+    ensures error { IfErr result (λ e. e ≡ unremoved.NoChild
+        → child_of (array (values_of (map view items.old.items))) token.now ≡ None) }
+    ensures many { IfErr result (λ e. e ≡ unremoved.TooMany
+        → room < shifted_out (array (values_of (map view items.old.items))) token.now) }
+    ensures most { IfErr result (λ e. e ≡ unremoved.TooMany → room < 2 ^ 64 - 1) }
 {
-    let index = index_of(token)?;
+    let Some(index) = index_of(token) else {
+        return Err(Unremoved::NoChild);
+    };
     if index >= items.len() {
-        return None;
+        return Err(Unremoved::NoChild);
     }
-    Some(items.remove(index))
+    let Some(left) = room.checked_sub(items.len() - index - 1) else {
+        return Err(Unremoved::TooMany);
+    };
+    Ok((items.remove(index), left))
 }
 
-/// As `remove_child`, of an object.
-fn remove_member(object: &mut Object, token: &str) -> Option<JsonValue>
-    ensures old { option_map view result ≡ child_of (view_object object.old) token.now }
-    ensures new { without (view_object object.old) token.now
-        ≡ option_map (λ _. view_object object.new) result }
-    ensures kept { result ≡ None → view_object object.new ≡ view_object object.old }
+/// As `remove_child`, of an object: the index is numbered anew, so all entries are shifted.
+fn remove_member(
+    object: &mut Object,
+    token: &str,
+    room: usize,
+) -> Result<(JsonValue, usize), Unremoved>
+    ensures old { IfOk result (λ r. child_of (view_object object.old) token.now
+        ≡ Some (view r.0)) }
+    ensures new { OnOk result (without (view_object object.old) token.now
+        ≡ Some (view_object object.new)) }
+    ensures left { IfOk result (λ r. r.1 + shifted_out (view_object object.old) token.now ≡ room) }
+    ensures err { OnErr result (view_object object.new ≡ view_object object.old) }
+    ensures error { IfErr result (λ e. e ≡ unremoved.NoChild
+        → child_of (view_object object.old) token.now ≡ None) }
+    ensures many { IfErr result (λ e. e ≡ unremoved.TooMany
+        → room < shifted_out (view_object object.old) token.now) }
+    ensures most { IfErr result (λ e. e ≡ unremoved.TooMany → room < 2 ^ 64 - 1) }
 {
-    let position = position_of(object, token)?;
-    let (_key, old) = object.shift_remove_index(position)?;
-    Some(old)
+    let Some(position) = position_of(object, token) else {
+        return Err(Unremoved::NoChild);
+    };
+    let Some(left) = room.checked_sub(object.len()) else {
+        return Err(Unremoved::TooMany);
+    };
+    match object.shift_remove_index(position) {
+        Some((_key, old)) => Ok((old, left)),
+        None => Err(Unremoved::NoChild),
+    }
 }

@@ -11,7 +11,7 @@ ghost use Rattle.std.specs.Prelude.{◌≡◌, ◌+◌, ◌<◌, ◌≤◌, ◌�
 ghost use Rattle.std.specs.Option.{option_map_or};
 ghost use Rattle.jzon.specs.Value.{Value, nest};
 ghost use Rattle.jzon.specs.View.{view};
-ghost use Rattle.jzon_tools.specs.Patch.{added_at, applied, applied_within, copied_by, deepened_at, depth_by, entry_of, has_value, is_below, is_deeper, is_within, left_after, moved_at, moved_by, name_of, operated, operated_by, pointer_in, tested_at, text_at, usual, value_of, IsBackup, IsCause, IsDone, IsErrorOf, IsLookup, IsText, Reports, Takes};
+ghost use Rattle.jzon_tools.specs.Patch.{added_at, applied, applied_within, copied_by, deepened_at, depth_by, entry_of, has_value, is_below, is_deeper, is_within, left_after, moved_at, moved_by, name_of, operated, operated_by, pointer_in, shifted_at, shifted_by, shifted_in, shifted_move, shifted_new, shifted_out, tested_at, text_at, usual, value_of, IsBackup, IsCause, IsDone, IsErrorOf, IsLookup, IsText, Reports, Takes};
 ghost use Rattle.jzon_tools.specs.Patch as meaning;
 ghost use Rattle.jzon_tools.specs.Weight.{weight};
 ghost use Rattle.jzon_pointer.specs.Pointer.{entry_at, removed_at, updated_at, slashes};
@@ -42,15 +42,19 @@ pub struct Limits {
     pub copied: usize,
     /// How much all that is moved to a deeper place may weigh: it is walked, any other move isn't.
     pub moved: usize,
+    /// How many elements and entries may change their places in all: an element that is inserted or removed
+    /// shifts those behind it, and a removed key all entries of its object. Appending shifts none.
+    pub shifted: usize,
 }
 
 impl Limits {
-    /// The limits of `apply`: 512 containers, as `jzon::parse` reads back, copies of 16 MiB, and moves to
-    /// a deeper place of 64 MiB.
+    /// The limits of `apply`: 512 containers, as `jzon::parse` reads back, copies of 16 MiB, moves to a
+    /// deeper place of 64 MiB, and 2^26 elements and entries that change their places.
     pub const USUAL: Limits = Limits {
         depth: 512,
         copied: 16_777_216,
         moved: 67_108_864,
+        shifted: 67_108_864,
     };
 }
 
@@ -94,7 +98,7 @@ pub fn apply(alloc: Global, value: &mut JsonValue, patch: &JsonValue) -> Result<
 
 /// Applies a patch within these limits. An operation that passes one can't be done, and the cause is
 /// `TooDeep` or `TooLarge`. What an operation clones is walked before, and of what is moved only
-/// what gets to a deeper place.
+/// what gets to a deeper place. What it shifts is counted by the lengths of the containers.
 ///
 /// ```rust
 /// let limits = Limits {
@@ -281,6 +285,9 @@ fn operate(
     ensures moved { OnOk result
         (left.new.moved + moved_by op path.now (view operation.now) (view value.old)
         ≡ left.old.moved) }
+    ensures shifted { OnOk result
+        (left.new.shifted + shifted_by op path.now (view operation.now) (view value.old)
+        ≡ left.old.shifted) }
     ensures left { OnOk result (left.new.depth ≡ left.old.depth) }
     ensures err { (op ≡ ops.Move → ⊥) → OnErr result (view value.new ≡ view value.old) }
     ensures kept { op ≡ ops.Test → view value.new ≡ view value.old }
@@ -290,10 +297,12 @@ fn operate(
         Op::Add => {
             let new = operand(operation)?;
             admit(path, new, left.depth)?;
-            put(alloc, value, path, cloned(alloc, new)?)
+            left.shifted = put(alloc, value, path, cloned(alloc, new)?, left.shifted)?;
+            Ok(())
         }
         Op::Remove => {
-            take(value, Member::Path, path)?;
+            let (_old, room) = take(value, Member::Path, path, left.shifted)?;
+            left.shifted = room;
             Ok(())
         }
         Op::Replace => {
@@ -385,35 +394,55 @@ fn look<'a>(value: &'a JsonValue, member: Member, path: &str) -> Result<&'a Json
 }
 
 /// As `edit::insert_at`, also for the whole value.
-fn put(alloc: Global, value: &mut JsonValue, path: &str, new: JsonValue) -> Result<(), Fault>
+fn put(
+    alloc: Global,
+    value: &mut JsonValue,
+    path: &str,
+    new: JsonValue,
+    room: usize,
+) -> Result<usize, Fault>
     ensures done { IsDone (added_at (view new) (view value.old) path.now) (view value.new) result }
+    ensures left { IfOk result (λ left. left + shifted_at shifted_new (view value.old) path.now
+        ≡ room) }
     ensures err { OnErr result (view value.new ≡ view value.old) }
-    ensures cause { (op v : Value) → IsLookup members.Path path.now (view value.old) op v
-        → (l : Within) → IfErr result (λ e. IsCause e l op v) }
+    ensures cause { (op v : Value) (l : Within) → IsLookup members.Path path.now (view value.old) op v
+        → (room < shifted_at shifted_new (view value.old) path.now → l.shifted < shifted_in op v)
+        → IfErr result (λ e. IsCause e l op v) }
 {
     if path.is_empty() {
         *value = new;
-        return Ok(());
+        return Ok(room);
     }
-    match edit::insert_at(alloc, value, path, new) {
-        Ok(()) => Ok(()),
+    match edit::insert_at(alloc, value, path, new, room) {
+        Ok(left) => Ok(left),
         Err(Refused::OutOfMemory) => Err(Fault::OutOfMemory),
+        Err(Refused::TooMany) => Err(Fault::Operation(Cause::TooLarge)),
         Err(Refused::Lost(error)) => Err(at(Member::Path, error)),
     }
 }
 
 /// As `edit::remove_at`. The error names the member that has the pointer.
-fn take(value: &mut JsonValue, member: Member, path: &str) -> Result<JsonValue, Fault>
-    ensures old { IfOk result (λ old. entry_of (view value.old) path.now ≡ Some (view old)) }
-    ensures new { OnOk result (removed_at (view value.old) path.now ≡ Some (view value.new)) }
-    ensures error { OnErr result (removed_at (view value.old) path.now ≡ None) }
+fn take(
+    value: &mut JsonValue,
+    member: Member,
+    path: &str,
+    room: usize,
+) -> Result<(JsonValue, usize), Fault>
+    ensures old { IfOk result (λ r. entry_of (view value.old) path.now ≡ Some (view r.0)) }
+    ensures done { IsDone (removed_at (view value.old) path.now) (view value.new) result }
+    ensures left { IfOk result (λ r. r.1 + shifted_at shifted_out (view value.old) path.now
+        ≡ room) }
     ensures err { OnErr result (view value.new ≡ view value.old) }
-    ensures cause { (op v : Value) → IsLookup member path.now (view value.old) op v
-        → Takes member op → (l : Within) → IfErr result (λ e. IsCause e l op v) }
+    ensures cause { (op v : Value) (l : Within) → IsLookup member path.now (view value.old) op v
+        → Takes member op
+        → (room < shifted_at shifted_out (view value.old) path.now → l.shifted < shifted_in op v)
+        → IfErr result (λ e. IsCause e l op v) }
 {
-    match edit::remove_at(value, path) {
-        Ok(old) => Ok(old),
-        Err(error) => Err(at(member, error)),
+    match edit::remove_at(value, path, room) {
+        Ok(taken) => Ok(taken),
+        Err(Refused::OutOfMemory) => Err(Fault::OutOfMemory),
+        Err(Refused::TooMany) => Err(Fault::Operation(Cause::TooLarge)),
+        Err(Refused::Lost(error)) => Err(at(member, error)),
     }
 }
 
@@ -445,6 +474,8 @@ fn duplicate(
         (value_of (view value.old) from.now) 0 ≤ left.old.depth) }
     ensures copied { OnOk result (left.new.copied + option_map_or weight
         (value_of (view value.old) from.now) 0 ≡ left.old.copied) }
+    ensures shifted { OnOk result (left.new.shifted
+        + shifted_at shifted_new (view value.old) path.now ≡ left.old.shifted) }
     ensures left { OnOk result
         ((left.new.depth ≡ left.old.depth) × (left.new.moved ≡ left.old.moved)) }
     ensures err { OnErr result (view value.new ≡ view value.old) }
@@ -456,7 +487,8 @@ fn duplicate(
     let room = admit_weighed(path, original, left.depth, left.copied)?;
     let new = cloned(alloc, original)?;
     left.copied = room;
-    put(alloc, value, path, new)
+    left.shifted = put(alloc, value, path, new, left.shifted)?;
+    Ok(())
 }
 
 /// Moves a value. If the place is deeper, it is walked, since it may nest too deep there; the limit
@@ -473,6 +505,8 @@ fn relocate(
         (deepened_at (view value.old) from.now path.now) 0 ≤ left.old.depth) }
     ensures moved { OnOk result (left.new.moved + option_map_or weight
         (deepened_at (view value.old) from.now path.now) 0 ≡ left.old.moved) }
+    ensures shifted { OnOk result (left.new.shifted
+        + shifted_move (view value.old) from.now path.now ≡ left.old.shifted) }
     ensures left { OnOk result
         ((left.new.depth ≡ left.old.depth) × (left.new.copied ≡ left.old.copied)) }
     ensures cause { (op : Value) → meaning.op_of op ≡ Some ops.Move
@@ -480,6 +514,7 @@ fn relocate(
         → IfErr result (λ e. IsCause e left.old op (view value.old)) }
 {
     let source = look(value, Member::From, from)?;
+    let room = left.shifted;
     if is_deeper(path, from) {
         left.moved = admit_weighed(path, source, left.depth, left.moved)?;
     }
@@ -489,8 +524,9 @@ fn relocate(
     if is_below(path, from) {
         return Err(Fault::Operation(Cause::IntoItself));
     }
-    let moved = take(value, Member::From, from)?;
-    put(alloc, value, path, moved)
+    let (moved, room) = take(value, Member::From, from, room)?;
+    left.shifted = put(alloc, value, path, moved, room)?;
+    Ok(())
 }
 
 /// Whether a pointer has more tokens than another one.

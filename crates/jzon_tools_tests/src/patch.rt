@@ -175,6 +175,7 @@ fn applies_within_limits(rt: HostRuntime) -> Tested {
             depth: *depth,
             copied: *weight,
             moved: *weight,
+            ..Limits::USUAL
         };
         let outcome = patch::apply_within(rt.alloc(), &mut value, &patch, &limits);
         expect_eq(&rt, text, outcome.is_ok(), cause.is_none());
@@ -183,6 +184,79 @@ fn applies_within_limits(rt: HostRuntime) -> Tested {
             expect_dump(&rt, &value, before);
         }
     }
+    Ok(())
+}
+
+/// A value, a patch, how many elements and entries it shifts, and the operation that shifts the last.
+const SHIFTED: &[(&str, &str, usize, usize)] = rows! {
+    ("[1,2,3]", r#"[{"op":"add","path":"/0","value":0}]"#, 3, 0)
+    ("[1,2,3]", r#"[{"op":"add","path":"/1","value":0}]"#, 2, 0)
+    ("[1,2,3]", r#"[{"op":"add","path":"/3","value":0},{"op":"add","path":"/-","value":0}]"#, 0, 0)
+    ("[1,2,3]", r#"[{"op":"add","path":"","value":[]}]"#, 0, 0)
+    ("[1,2,3]", r#"[{"op":"replace","path":"/0","value":0},{"op":"test","path":"/0","value":0}]"#, 0, 0)
+    ("[1,2,3]", r#"[{"op":"remove","path":"/0"}]"#, 2, 0)
+    ("[1,2,3]", r#"[{"op":"remove","path":"/2"}]"#, 0, 0)
+    ("[[1,2,3],4]", r#"[{"op":"remove","path":"/0/1"}]"#, 1, 0)
+    (r#"{"a":1,"b":2,"c":3}"#, r#"[{"op":"remove","path":"/c"}]"#, 3, 0)
+    (r#"{"a":1,"b":2,"c":3}"#, r#"[{"op":"add","path":"/d","value":0},{"op":"add","path":"/a","value":0}]"#, 0, 0)
+    ("[1,2,3]", r#"[{"op":"copy","from":"/2","path":"/1"}]"#, 2, 0)
+    ("[1,2,3]", r#"[{"op":"copy","from":"/0","path":"/-"}]"#, 0, 0)
+    ("[1,2,3]", r#"[{"op":"move","from":"/0","path":"/1"}]"#, 3, 0)
+    ("[1,2,3]", r#"[{"op":"move","from":"/0","path":"/-"}]"#, 2, 0)
+    ("[1,2,3]", r#"[{"op":"move","from":"/0","path":"/0"}]"#, 0, 0)
+    (r#"{"a":1,"b":[2,3]}"#, r#"[{"op":"move","from":"/a","path":"/b/0"}]"#, 4, 0)
+    (r#"{"a":[1,2],"b":3}"#, r#"[{"op":"move","from":"/a/0","path":"/b"}]"#, 1, 0)
+    ("[1,2,3]", r#"[{"op":"add","path":"/0","value":0},{"op":"remove","path":"/0"},{"op":"test","path":"/0","value":1}]"#, 6, 1)
+};
+
+#[test]
+fn counts_what_is_shifted(rt: HostRuntime) -> Tested {
+    for (before, text, shifted, last) in SHIFTED {
+        let mut value = jzon::parse(rt.alloc(), before)?;
+        let patch = jzon::parse(rt.alloc(), text)?;
+        let mut limits = Limits {
+            shifted: *shifted,
+            ..Limits::USUAL
+        };
+        let outcome = patch::apply_within(rt.alloc(), &mut value, &patch, &limits);
+        expect(&rt, text, outcome.is_ok());
+        let Some(less) = shifted.checked_sub(1) else {
+            continue;
+        };
+        limits.shifted = less;
+        let mut value = jzon::parse(rt.alloc(), before)?;
+        match patch::apply_within(rt.alloc(), &mut value, &patch, &limits) {
+            Ok(()) => expect(&rt, text, false),
+            Err(error) => expect_why(&rt, text, &error, Some(*last), Undone(Cause::TooLarge)),
+        }
+        expect_dump(&rt, &value, before);
+    }
+    Ok(())
+}
+
+/// Each removal shifts all elements behind. The first 134 shift 66,990,955, and one more would pass 2^26.
+#[test]
+fn stops_removals_at_the_front(rt: HostRuntime) -> Tested {
+    let alloc = rt.alloc();
+    let remove = r#"{"op":"remove","path":"/0"}"#;
+    let text = joined(alloc, &[("[0", 1), (",0", 499_999), ("]", 1)])?;
+    let removals = joined(
+        alloc,
+        &[
+            ("[", 1),
+            (remove, 1),
+            (r#",{"op":"remove","path":"/0"}"#, 35_999),
+            ("]", 1),
+        ],
+    )?;
+    let mut value = jzon::parse(alloc, text.as_str())?;
+    let patch = jzon::parse(alloc, removals.as_str())?;
+    match patch::apply(alloc, &mut value, &patch) {
+        Ok(()) => expect(&rt, remove, false),
+        Err(error) => expect_why(&rt, remove, &error, Some(134), Undone(Cause::TooLarge)),
+    }
+    expect_eq(&rt, remove, value.len(), 500_000);
+    expect_eq(&rt, remove, Limits::USUAL.shifted, 67_108_864);
     Ok(())
 }
 
@@ -234,7 +308,8 @@ fn stops_at_the_depth_that_is_read(rt: HostRuntime) -> Tested {
     Ok(())
 }
 
-/// A value, a patch, and the words of the error within a depth of 2 and a weight of 100.
+/// A value, a patch, and the words of the error within a depth of 2, a weight of 100, and 5 elements and
+/// entries that are shifted.
 const WORDS: &[(&str, &str, &str)] = rows! {
     ("{}", "5", "the patch isn't an array")
     ("{}", r#"[{"op":"test","path":"","value":{}},5]"#, "operation 1: not an object")
@@ -248,6 +323,7 @@ const WORDS: &[(&str, &str, &str)] = rows! {
     ("[1]", r#"[{"op":"add","path":"/-","value":[[1]]}]"#, "operation 0: /-: nested too deep")
     ("[[1]]", r#"[{"op":"copy","from":"/0","path":"/-"},{"op":"copy","from":"/0","path":"/1"}]"#, "operation 1: /1: copies or moves too much")
     (r#"{"a":"xyz","b":{}}"#, r#"[{"op":"move","from":"/a","path":"/b/c"},{"op":"move","from":"/b/c","path":"/a"},{"op":"move","from":"/a","path":"/b/c"}]"#, "operation 2: /b/c: copies or moves too much")
+    ("[1,2,3,4,5,6,7]", r#"[{"op":"remove","path":"/0"}]"#, "operation 0: /0: copies or moves too much")
     ("{}", r#"[{"op":"copy","from":"x","path":"/b"}]"#, "operation 0: `from`: x: a pointer begins with /")
     ("{}", r#"[{"op":"copy","from":"/x","path":"/b"}]"#, "operation 0: `from`: /x: the whole value has no key \"x\"")
     (r#"{"x":5}"#, r#"[{"op":"copy","from":"/x","path":"/b"},{"op":"test","path":"/b/0","value":9}]"#, "operation 1: `path`: /b/0: /b is a number and has no members")
@@ -260,6 +336,7 @@ fn shows_errors(rt: HostRuntime) -> Tested {
         depth: 2,
         copied: 100,
         moved: 100,
+        shifted: 5,
     };
     for (before, text, words) in WORDS {
         let mut value = jzon::parse(rt.alloc(), before)?;
