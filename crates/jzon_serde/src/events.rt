@@ -3,13 +3,13 @@
 
 ghost use Rattle.std.specs.Prelude.{◌≤◌, length, OnOk};
 
-use crate::fault::Fault;
+use crate::fault::{Fault, Part};
 use crate::number::number_of;
 use crate::wrappers::EXACT;
 use jzon::number::Number;
 use jzon_pointer::error::What;
 use serde::{Case, NameKind, Serializer};
-use std::alloc::Global;
+use std::alloc::{AllocError, Global};
 use std::cell::Cell;
 use std::fmt::{Display, Write};
 use std::result::Result;
@@ -35,12 +35,12 @@ pub(crate) trait Sink {
     fn put_key(&mut self, key: &str) -> Result<(), Fault>;
 
     /// An element follows.
-    fn begin_element(&mut self) -> Result<(), Fault>;
+    fn begin_element(&mut self) -> Result<(), Fault> {
+        Ok(())
+    }
 
-    /// Opens a map or a list.
     fn open(&mut self, is_map: bool) -> Result<(), Fault>;
 
-    /// Closes the innermost map or list.
     fn close(&mut self, is_map: bool) -> Result<(), Fault>;
 }
 
@@ -136,7 +136,6 @@ impl<S: Sink + Drop> Events<S> {
         self.sink.put(scalar)
     }
 
-    /// A string, or a key.
     #[inline(always)]
     fn put_text(&mut self, text: &str, is_key: bool) -> Result<(), Fault> {
         if is_key {
@@ -226,12 +225,12 @@ impl<S: Sink + Drop> Events<S> {
     #[cold]
     #[inline(never)]
     fn refused(&self, words: &'static str) -> Fault {
-        self.fault(What::Said(words))
+        self.fault(Ok(What::Said(words)))
     }
 
     /// What is wrong with the whole value.
-    fn fault(&self, what: What) -> Fault {
-        Fault::new(self.alloc, what, Vec::new(self.alloc), None, false)
+    fn fault(&self, what: Result<What, AllocError>) -> Fault {
+        Fault::new(self.alloc, what, Vec::new(self.alloc), Part::Value)
     }
 }
 
@@ -255,10 +254,8 @@ impl<S: Sink + Drop> Serializer for Events<S> {
 
     fn i128(&mut self, v: i128) -> Result<(), Fault> {
         let size = u64::try_from(v.unsigned_abs()).ok();
-        self.put_integer(
-            &v,
-            size.map(|size| Number::from_parts_unchecked(v >= 0, size, 0)),
-        )
+        let number = size.map(|size| Number::from_parts_unchecked(v >= 0, size, 0));
+        self.put_integer(&v, number)
     }
 
     fn u128(&mut self, v: u128) -> Result<(), Fault> {
@@ -378,10 +375,8 @@ impl<S: Sink + Drop> Serializer for Events<S> {
             self.exact.set(number_of(digits));
             return Fault::MEMORY;
         }
-        String::from_str(self.alloc, message).map_or(
-            Fault::MEMORY,
-            |words| self.fault(What::Custom(words)),
-        )
+        let words = String::from_str(self.alloc, message);
+        self.fault(words.map(What::Custom))
     }
 
     /// A printed text, as a string or as a key.

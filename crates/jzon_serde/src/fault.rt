@@ -16,17 +16,25 @@ pub(crate) struct Fault {
     wrong: Option<Box<Wrong>>,
 }
 
-/// What is wrong, and with which member of the value that is read. The keys to it may be long, so
-/// they aren't here: a type may drop many errors, and read the value in another way.
+/// What is wrong, and with which part of which member of the value that is read. The keys to it may
+/// be long, so they aren't here: a type may drop many errors, and read the value in another way.
 #[derive(Clone, Drop)]
 struct Wrong {
     what: What,
     /// The member's index in its container, from the outermost on.
     indexes: Vec<usize>,
-    /// A key that is missing in it.
-    missing: Option<String>,
-    /// Not the member is wrong, but its key.
-    is_of_key: bool,
+    part: Part,
+}
+
+/// What of a member is wrong.
+#[derive(Clone, Drop)]
+pub(crate) enum Part {
+    Value,
+    Key,
+    /// Not the member is wrong, but what contains it.
+    Container,
+    /// It lacks the entry of this key.
+    Missing(String),
 }
 
 impl Fault {
@@ -36,20 +44,20 @@ impl Fault {
     #[cold]
     pub(crate) fn new(
         alloc: Global,
-        what: What,
+        what: Result<What, AllocError>,
         indexes: Vec<usize>,
-        missing: Option<String>,
-        is_of_key: bool,
+        part: Part,
     ) -> Fault {
+        let Ok(what) = what else {
+            return Fault::MEMORY;
+        };
         let wrong = Wrong {
             what,
             indexes,
-            missing,
-            is_of_key,
+            part,
         };
-        Fault {
-            wrong: Box::new(alloc, wrong).ok(),
-        }
+        let wrong = Box::new(alloc, wrong).ok();
+        Fault { wrong }
     }
 
     pub(crate) fn is_memory(&self) -> bool {
@@ -67,7 +75,7 @@ impl Fault {
     ) -> Error
         ensures { IsOfValueIn text.now result }
     {
-        let is_of_key = self.wrong.as_ref().is_some_and(|wrong| wrong.is_of_key);
+        let is_of_key = matches!(&self.wrong, Some(wrong) if matches!(&wrong.part, Part::Key));
         let error = self.into_error(alloc, value);
         if !is_of_key {
             return error.in_text(alloc, text, reading);
@@ -115,7 +123,7 @@ impl Wrong {
                 _ => None,
             };
         }
-        if let Some(key) = &self.missing {
+        if let Part::Missing(key) = &self.part {
             push_token(&mut pointer, key.as_str())?;
         }
         Ok(pointer)

@@ -1,6 +1,6 @@
 //! The steps of a reader over a value.
 
-use crate::fault::Fault;
+use crate::fault::{Fault, Part};
 use crate::number::whole;
 use crate::tree::{Asked, Container, Due, Mark, TreeFormat};
 use jzon::JsonValue;
@@ -21,15 +21,11 @@ impl<'v> TreeFormat<'v> {
             Some(_) if may_be_cut(number) => {
                 let expected = Expected::Other(SIGNED);
                 let found = Found::Number(number);
-                Err(self.fault(false, What::Cut { expected, found }))
-            }
-            Some(integer) => {
-                self.pass();
-                Ok(integer)
+                Err(self.fault(Part::Value, Ok(What::Cut { expected, found })))
             }
             // Its digits are followed by zeros: it has no fraction.
             None if number.as_parts().2 > 0 => Err(self.expected(WIDE)),
-            None => Err(self.expected(Expected::Other(expected))),
+            integer => self.taken(integer, Expected::Other(expected)),
         }
     }
 
@@ -62,22 +58,27 @@ impl<'v> TreeFormat<'v> {
         if let Some(key) = self.key() {
             return fast_float::parse::<F, _>(key).map_err(|_| self.unfit("a number"));
         }
-        let (positive, mantissa, exponent) = self.number()?.as_parts();
-        Ok(fast_float::from_parts(!positive, mantissa, i64::from(exponent)))
+        match self.look()?.as_number() {
+            Some(number) if !number.is_nan() => {
+                self.due = Due::Nothing;
+                let (positive, mantissa, exponent) = number.as_parts();
+                Ok(fast_float::from_parts(!positive, mantissa, i64::from(exponent)))
+            }
+            _ => Err(self.expected(Expected::Number)),
+        }
     }
 
     /// The bytes that the numbers of an array are. No array is as long as the loop's bound, by
     /// which the loop is proved to end.
     fn bytes_of_items(&mut self, alloc: Global) -> Result<Vec<u8>, Fault> {
+        self.begin_seq(&[])?;
         let mut bytes = Vec::new(alloc);
         for _ in 0..u64::MAX {
             if !self.next_item(&[])? {
                 return Ok(bytes);
             }
-            let Ok(byte) = u8::try_from(self.u64(&[])?) else {
-                return Err(self.invalid());
-            };
-            bytes.push(byte)?;
+            let number = self.u64(&[])?;
+            bytes.push(u8::try_from(number).map_err(|_| self.invalid())?)?;
         }
         Err(Fault::MEMORY)
     }
@@ -85,7 +86,7 @@ impl<'v> TreeFormat<'v> {
     /// Fails unless the object that was begun has one entry, as that of a variant and its data has.
     #[inline(never)]
     fn single_entry(&mut self) -> Result<(), Fault> {
-        match self.place.frame.container {
+        match self.frame.container {
             Container::Map(object) if object.len() != 1 => {
                 // The object is wrong.
                 self.leave();
@@ -109,9 +110,8 @@ const FLOAT: &str = "a number in a float's range";
 /// Whether the names are those of variants.
 #[inline(always)]
 fn is_of_variants(names: &[Name<'_>]) -> bool {
-    names
-        .first()
-        .is_some_and(|name| name.kind == NameKind::Variant)
+    let first = names.first();
+    first.is_some_and(|name| name.kind == NameKind::Variant)
 }
 
 /// Whether a text that is an integer's has no plus, no zero before other digits, and isn't `-0`.
@@ -138,13 +138,8 @@ impl<'v> Format for TreeFormat<'v> {
         if let Some(key) = self.key() {
             return key.parse().map_err(|_| self.unfit("true or false"));
         }
-        match self.look()? {
-            JsonValue::Boolean(truth) => {
-                self.pass();
-                Ok(*truth)
-            }
-            _ => Err(self.expected(Expected::Boolean)),
-        }
+        let truth = self.look()?.as_bool();
+        self.taken(truth, Expected::Boolean)
     }
 
     #[inline(always)]
@@ -153,7 +148,7 @@ impl<'v> Format for TreeFormat<'v> {
             return self.integer_key(key, key.parse().ok(), SIGNED);
         }
         if let Some(integer) = self.look()?.as_i64() {
-            self.pass();
+            self.due = Due::Nothing;
             return Ok(integer);
         }
         i64::try_from(self.integer(SIGNED)?).map_err(|_| self.invalid())
@@ -165,7 +160,7 @@ impl<'v> Format for TreeFormat<'v> {
             return self.integer_key(key, key.parse().ok(), UNSIGNED);
         }
         if let Some(integer) = self.look()?.as_u64() {
-            self.pass();
+            self.due = Due::Nothing;
             return Ok(integer);
         }
         self.unsigned()
@@ -216,29 +211,24 @@ impl<'v> Format for TreeFormat<'v> {
     }
 
     /// A string's bytes, an array of numbers, or the text of a number, by which `Exact` takes it.
-    fn byte_buf(&mut self, alloc: Global, input: &[u8]) -> Result<Vec<u8>, Fault> {
-        if let Due::Value(value) = self.place.due {
-            match value {
-                JsonValue::Number(number) if !number.is_nan() => {
-                    self.pass();
-                    let (positive, mantissa, exponent) = number.as_parts();
-                    let text = number_text(positive, mantissa, exponent);
-                    return Ok(Vec::from_slice(alloc, text.as_str().as_bytes())?);
-                }
-                JsonValue::Array(_) => {
-                    self.begin_seq(input)?;
-                    return self.bytes_of_items(alloc);
-                }
-                _ => {}
+    fn byte_buf(&mut self, alloc: Global, _input: &[u8]) -> Result<Vec<u8>, Fault> {
+        let due = self.due;
+        match due {
+            Due::Value(JsonValue::Number(number)) if !number.is_nan() => {
+                self.due = Due::Nothing;
+                let (positive, mantissa, exponent) = number.as_parts();
+                let text = number_text(positive, mantissa, exponent);
+                Ok(Vec::from_slice(alloc, text.as_str().as_bytes())?)
             }
+            Due::Value(JsonValue::Array(_)) => self.bytes_of_items(alloc),
+            _ => Ok(Vec::from_slice(alloc, self.text()?.as_bytes())?),
         }
-        Ok(Vec::from_slice(alloc, self.text()?.as_bytes())?)
     }
 
     /// A number with an exponent is a float. So are `-0`, which would lose its sign as an integer,
     /// and what is below `i64::MIN`.
     fn peek(&mut self, _input: &[u8]) -> Result<Kind, Fault> {
-        if let Due::Key(_, _) = self.place.due {
+        if let Due::Key(_, _) = self.due {
             return Ok(Kind::Str);
         }
         self.asked = Asked::Kind;
@@ -272,7 +262,7 @@ impl<'v> Format for TreeFormat<'v> {
     /// null.
     #[inline(always)]
     fn take_none(&mut self, _input: &[u8]) -> Result<bool, Fault> {
-        if let Due::Key(_, _) = self.place.due {
+        if let Due::Key(_, _) = self.due {
             return Ok(false);
         }
         match self.look()? {
@@ -284,7 +274,7 @@ impl<'v> Format for TreeFormat<'v> {
                 return Ok(false);
             }
         }
-        self.pass();
+        self.due = Due::Nothing;
         Ok(true)
     }
 
@@ -299,18 +289,18 @@ impl<'v> Format for TreeFormat<'v> {
     /// Goes to the next element, unless one is still due, or leaves the array at its end.
     #[inline(always)]
     fn next_item(&mut self, _input: &[u8]) -> Result<bool, Fault> {
-        let Container::Seq(items) = self.place.frame.container else {
+        let Container::Seq(items) = self.frame.container else {
             return Err(self.misused());
         };
-        if let Due::Value(_) = self.place.due {
+        if let Due::Value(_) = self.due {
             return Ok(true);
         }
-        let Some(item) = items.get(self.place.frame.begun) else {
+        let Some(item) = items.get(self.frame.begun) else {
             self.leave();
             return Ok(false);
         };
         self.begin_member();
-        self.place.due = Due::Value(item);
+        self.due = Due::Value(item);
         Ok(true)
     }
 
@@ -353,7 +343,7 @@ impl<'v> Format for TreeFormat<'v> {
             self.note_spelling(names);
             return Ok(None);
         };
-        self.place.due = Due::Value(value);
+        self.due = Due::Value(value);
         let at = find(names, key);
         if at == usize::MAX && is_of_variants(names) {
             self.note_variants(names);
@@ -366,7 +356,7 @@ impl<'v> Format for TreeFormat<'v> {
         let Some((key, value)) = self.entry()? else {
             return Ok(false);
         };
-        self.place.due = Due::Key(key, value);
+        self.due = Due::Key(key, value);
         Ok(true)
     }
 
@@ -380,9 +370,9 @@ impl<'v> Format for TreeFormat<'v> {
 
     #[inline(always)]
     fn skip(&mut self, _input: &[u8]) -> Result<(), Fault> {
-        match self.place.due {
-            Due::Value(_) => self.place.due = Due::Nothing,
-            Due::Key(_, value) => self.place.due = Due::Value(value),
+        match self.due {
+            Due::Value(_) => self.due = Due::Nothing,
+            Due::Key(_, value) => self.due = Due::Value(value),
             Due::Nothing => return Err(self.misused()),
         }
         Ok(())
@@ -391,7 +381,8 @@ impl<'v> Format for TreeFormat<'v> {
     /// Until `release`, `leave` keeps the frames that there are now, so that `rewind` finds them.
     fn mark(&mut self) -> Mark<'v> {
         let mark = Mark {
-            place: self.place,
+            frame: self.frame,
+            due: self.due,
             frames: self.frames.len(),
             kept: self.kept,
             spelling: self.spelling,
@@ -403,7 +394,8 @@ impl<'v> Format for TreeFormat<'v> {
 
     /// Goes back to a mark, and drops later ones.
     fn rewind(&mut self, mark: Mark<'v>) {
-        self.place = mark.place;
+        self.frame = mark.frame;
+        self.due = mark.due;
         self.key = None;
         self.kept = mark.frames;
         self.frames.truncate(mark.frames);
@@ -412,8 +404,8 @@ impl<'v> Format for TreeFormat<'v> {
     /// Drops a mark, later ones, and the frames that only they kept.
     fn release(&mut self, mark: Mark<'v>) {
         self.kept = mark.kept;
-        self.frames.truncate(self.place.frame.level.max(mark.kept));
-        if self.key.is_none() && !matches!(self.place.due, Due::Nothing) {
+        self.frames.truncate(self.frame.level.max(mark.kept));
+        if self.key.is_none() && !matches!(self.due, Due::Nothing) {
             // Nothing was read: no form fitted, or only a tag was looked up, by its own spelling.
             self.asked = Asked::Forms;
             self.spelling = mark.spelling;
@@ -424,17 +416,27 @@ impl<'v> Format for TreeFormat<'v> {
         error.is_memory()
     }
 
+    /// The error of the entry that the field `name` would be read from. Its key isn't known if the
+    /// names are spelled in several ways, or if the struct was read from an array: then the field
+    /// is named.
     #[cold]
     fn missing(&self, name: &str) -> Fault {
-        self.missing_key(name).unwrap_or(Fault::MEMORY)
+        let Ok(key) = self.key_of(name) else {
+            return Fault::MEMORY;
+        };
+        if let Some(key) = key {
+            return self.fault(Part::Missing(key), Ok(What::Missing(Expected::Value)));
+        }
+        let words = format!(in self.alloc; "the field {name} is missing");
+        self.fault(Part::Value, words.map(What::Custom))
     }
 
     fn duplicate(&self, _name: &str) -> Fault {
-        self.fault(true, What::Said("given twice"))
+        self.fault(Part::Key, Ok(What::Said("given twice")))
     }
 
     fn unknown_key(&self) -> Fault {
-        self.fault(true, What::Said("unknown key"))
+        self.fault(Part::Key, Ok(What::Said("unknown key")))
     }
 
     /// The error that `note_variants` kept, if it kept one.
@@ -450,22 +452,19 @@ impl<'v> Format for TreeFormat<'v> {
     /// first after a tuple's last part, which tells the length; else the array was read to its end.
     #[cold]
     fn wrong_len(&self) -> Fault {
-        let frame = self.place.frame;
-        match (frame.container, self.place.due, self.around()) {
-            (Container::Seq(items), Due::Value(_), Some(around)) => {
-                let expected = Expected::Exactly(frame.begun.saturating_sub(1));
-                let found = Found::Array(items.len());
-                self.fault_to(*around, false, None, What::Wrong { expected, found })
-            }
-            _ => self.expected(Expected::Other("an array of another length")),
-        }
+        let (Container::Seq(items), Due::Value(_)) = (self.frame.container, self.due) else {
+            return self.expected(Expected::Other("an array of another length"));
+        };
+        let expected = Expected::Exactly(self.frame.begun.saturating_sub(1));
+        let found = Found::Array(items.len());
+        self.fault(Part::Container, Ok(What::Wrong { expected, found }))
     }
 
     /// A key or a value that is none of the type's. If no value was read, `asked` tells what is
     /// expected; a number that was read is out of the type's range.
     #[cold]
     fn invalid(&self) -> Fault {
-        let words = match (self.key_at_hand(), self.place.due, self.asked) {
+        let words = match (self.key_at_hand(), self.due, self.asked) {
             (Some(_), Due::Value(_), Asked::Integer) => IN_RANGE,
             (None, Due::Value(_), Asked::Unit) => "null",
             (None, Due::Value(_), Asked::Forms) | (_, Due::Key(_, _), Asked::Forms) => {
@@ -486,9 +485,8 @@ impl<'v> Format for TreeFormat<'v> {
     /// What a type's own reader says, of the key if it read that alone.
     #[cold]
     fn custom(&self, message: &str) -> Fault {
-        String::from_str(self.alloc, message).map_or(
-            Fault::MEMORY,
-            |words| self.fault(self.key_at_hand().is_some(), What::Custom(words)),
-        )
+        let part = self.key_at_hand().map_or(Part::Value, |_key| Part::Key);
+        let words = String::from_str(self.alloc, message);
+        self.fault(part, words.map(What::Custom))
     }
 }

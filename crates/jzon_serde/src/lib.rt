@@ -71,10 +71,7 @@ pub fn from_str_as<T: DeserializeOwned>(
     ensures error { IfErr result (IsOfReading reading.now text.now) }
 {
     let value = parse_located(alloc, text, reading)?;
-    match read(alloc, &value) {
-        Ok(read) => Ok(read),
-        Err(fault) => Err(fault.in_text(alloc, &value, text, reading)),
-    }
+    read(alloc, &value).map_err(|fault| fault.in_text(alloc, &value, text, reading))
 }
 
 /// As `from_str`, of bytes, which are an error if they aren't UTF-8.
@@ -98,7 +95,9 @@ pub fn from_slice<T: DeserializeOwned>(alloc: Global, bytes: &[u8]) -> Result<T,
 pub fn to_value<T: Serialize>(alloc: Global, source: &T) -> Result<JsonValue, Error>
     ensures { IfErr result IsOfValue }
 {
-    Ok(written(alloc, source, Tree::new(alloc))?.whole)
+    let (tree, done) = written(alloc, source, Tree::new(alloc));
+    done?;
+    Ok(tree.whole)
 }
 
 /// The compact text of a type of `serde`: that of `to_value`'s `dump`, without the value. A key that
@@ -110,14 +109,18 @@ pub fn to_value<T: Serialize>(alloc: Global, source: &T) -> Result<JsonValue, Er
 pub fn to_string<T: Serialize>(alloc: Global, source: &T) -> Result<String, Error> {
     let mut out = DumpGenerator::new(alloc);
     out.get_writer().reserve(FIRST_ROOM)?;
-    Ok(written(alloc, source, Text::new(out))?.out.consume()?)
+    let (text, done) = written(alloc, source, Text::new(out));
+    done?;
+    Ok(text.out.consume()?)
 }
 
 /// As `to_string`, with a line for each element and entry, indented by two spaces: that of `pretty`.
 pub fn to_string_pretty<T: Serialize>(alloc: Global, source: &T) -> Result<String, Error> {
     let mut out = PrettyGenerator::new(alloc, 2);
     out.get_writer().reserve(FIRST_ROOM)?;
-    Ok(written(alloc, source, Text::new(out))?.out.consume()?)
+    let (text, done) = written(alloc, source, Text::new(out));
+    done?;
+    Ok(text.out.consume()?)
 }
 
 /// Writes the compact text to a writer, in many small pieces: give it a `BufWriter`. An error is the
@@ -127,7 +130,7 @@ pub fn to_string_pretty<T: Serialize>(alloc: Global, source: &T) -> Result<Strin
 /// to_writer(alloc, &mut out, &json)?;
 /// ```
 pub fn to_writer<W: Write, T: Serialize>(alloc: Global, out: &mut W, source: &T) -> io::Result<()> {
-    let (text, done) = sent(alloc, source, Text::new(WriterGenerator::new(out)));
+    let (text, done) = written(alloc, source, Text::new(WriterGenerator::new(out)));
     match text.slot {
         Some(error) => Err(error),
         None => Ok(done?),
@@ -144,24 +147,16 @@ fn read<T: DeserializeOwned>(alloc: Global, value: &JsonValue) -> Result<T, Faul
 }
 
 /// What a sink made of a type, and whether that is all of it.
-fn sent<T: Serialize, S: Sink + Drop>(alloc: Global, source: &T, sink: S) -> (S, Result<(), Error>)
+fn written<T: Serialize, S: Sink + Drop>(
+    alloc: Global,
+    source: &T,
+    sink: S,
+) -> (S, Result<(), Error>)
     ensures { IfErr result.1 IsOfValue }
 {
     let mut events = Events::new(alloc, sink);
     let done = source.serialize(&mut events).and_then(|()| events.end());
-    let Events { sink, .. } = events;
-    (
-        sink,
-        // A fault of writing has no indexes.
-        done.map_err(|fault| fault.into_error(alloc, &JsonValue::Null)),
-    )
-}
-
-/// What a sink in memory makes of a type. The sink fails only if that is short: no `slot` is read.
-fn written<T: Serialize, S: Sink + Drop>(alloc: Global, source: &T, sink: S) -> Result<S, Error>
-    ensures { IfErr result IsOfValue }
-{
-    let (sink, done) = sent(alloc, source, sink);
-    done?;
-    Ok(sink)
+    // A fault of writing has no indexes.
+    let done = done.map_err(|fault| fault.into_error(alloc, &JsonValue::Null));
+    (events.sink, done)
 }

@@ -10,26 +10,18 @@ use std::alloc::Global;
 use std::io;
 use std::result::Result;
 
-/// A container that is open.
-#[derive(Drop)]
-struct Open {
-    /// The keys of a map.
-    keys: Vec<Key>,
-    /// The elements, or the values of all keys but perhaps the last.
-    values: Vec<JsonValue>,
-}
-
 /// A value, as far as it came.
 #[derive(Drop)]
 pub(crate) struct Tree {
     alloc: Global,
-    open: Vec<Open>,
+    /// The containers that are open: the keys of a map, and the elements, or the values of all keys
+    /// but perhaps the last.
+    open: Vec<(Vec<Key>, Vec<JsonValue>)>,
     /// The whole value, once it came.
     pub(crate) whole: JsonValue,
 }
 
 impl Tree {
-    /// No part of a value yet.
     pub(crate) fn new(alloc: Global) -> Tree {
         Tree {
             alloc,
@@ -41,19 +33,11 @@ impl Tree {
     /// Puts a value into the innermost container, or as the whole.
     #[inline(always)]
     fn put_value(&mut self, value: JsonValue) -> Result<(), Fault> {
-        let Some(open) = self.open.last_mut() else {
-            self.whole = value;
-            return Ok(());
-        };
-        Ok(open.values.push(value)?)
-    }
-
-    /// Puts a map's object. It has as many values as keys, since `Events` lets no map end elsewhere.
-    fn put_object(&mut self, keys: Vec<Key>, values: Vec<JsonValue>) -> Result<(), Fault> {
-        if keys.len() != values.len() {
-            return Err(Fault::MEMORY);
+        match self.open.last_mut() {
+            Some((_, values)) => values.push(value)?,
+            None => self.whole = value,
         }
-        self.put_value(JsonValue::Object(Object::from_entries(self.alloc, keys, values)?))
+        Ok(())
     }
 }
 
@@ -76,32 +60,29 @@ impl Sink for Tree {
 
     fn put_key(&mut self, key: &str) -> Result<(), Fault> {
         let key = Key::new(self.alloc, key)?;
-        match self.open.last_mut() {
-            Some(open) => Ok(open.keys.push(key)?),
-            None => Ok(()),
+        if let Some((keys, _)) = self.open.last_mut() {
+            keys.push(key)?;
         }
-    }
-
-    fn begin_element(&mut self) -> Result<(), Fault> {
         Ok(())
     }
 
     fn open(&mut self, _is_map: bool) -> Result<(), Fault> {
-        let open = Open {
-            keys: Vec::new(self.alloc),
-            values: Vec::new(self.alloc),
-        };
-        Ok(self.open.push(open)?)
+        let (keys, values) = (Vec::new(self.alloc), Vec::new(self.alloc));
+        Ok(self.open.push((keys, values))?)
     }
 
     fn close(&mut self, is_map: bool) -> Result<(), Fault> {
-        let Some(Open { keys, values }) = self.open.pop() else {
+        let Some((keys, values)) = self.open.pop() else {
             return Ok(());
         };
-        if is_map {
-            return self.put_object(keys, values);
+        if !is_map {
+            return self.put_value(JsonValue::Array(values));
         }
-        self.put_value(JsonValue::Array(values))
+        // It never fails: `Events` lets no map end between a key and its value.
+        if keys.len() != values.len() {
+            return Err(Fault::MEMORY);
+        }
+        self.put_value(JsonValue::Object(Object::from_entries(self.alloc, keys, values)?))
     }
 }
 
@@ -118,7 +99,6 @@ pub(crate) struct Text<G: Generator + Drop> {
 }
 
 impl<G: Generator + Drop> Text<G> {
-    /// No part of a text yet.
     pub(crate) fn new(out: G) -> Text<G> {
         Text {
             out,

@@ -1,10 +1,10 @@
 //! A place in a value that is read, and the steps from one to the next.
 //!
-//! A frame in `frames` never changes: a mark copies the place, and going back to it moves nothing.
+//! A frame in `frames` never changes: a mark copies the one that is read, and going back to it moves
+//! nothing.
 
 use crate::fault::Fault;
 use jzon::JsonValue;
-use jzon::number::Number;
 use jzon::object::Object;
 use jzon_pointer::error::Expected;
 use serde::{Case, Name};
@@ -39,14 +39,9 @@ pub(crate) struct Frame<'v> {
 }
 
 #[derive(Clone, Copy, Drop)]
-pub(crate) struct Place<'v> {
+pub(crate) struct Mark<'v> {
     pub(crate) frame: Frame<'v>,
     pub(crate) due: Due<'v>,
-}
-
-#[derive(Clone, Copy, Drop)]
-pub(crate) struct Mark<'v> {
-    pub(crate) place: Place<'v>,
     /// How many frames there were, and how many were kept before.
     pub(crate) frames: usize,
     pub(crate) kept: usize,
@@ -70,11 +65,12 @@ pub(crate) enum Asked {
 #[derive(Drop)]
 pub(crate) struct TreeFormat<'v> {
     pub(crate) alloc: Global,
-    /// The containers around `place`, and those to which a mark may go back.
+    /// The containers around `frame`, and those to which a mark may go back.
     pub(crate) frames: Vec<Frame<'v>>,
     /// How many frames a mark needs.
     pub(crate) kept: usize,
-    pub(crate) place: Place<'v>,
+    pub(crate) frame: Frame<'v>,
+    pub(crate) due: Due<'v>,
     /// The key that was last read as a value. `None` again once the next member begins, and where
     /// an error is no longer the key's.
     pub(crate) key: Option<&'v str>,
@@ -86,7 +82,7 @@ pub(crate) struct TreeFormat<'v> {
 }
 
 /// How the names of a struct's fields are spelled as keys, by which a missing one is named.
-#[derive(Clone, Copy, Drop)]
+#[derive(Clone, Copy, Default, Drop)]
 pub(crate) struct Spelling {
     /// The container around, and how many of its members were begun.
     pub(crate) level: usize,
@@ -99,33 +95,26 @@ impl<'v> TreeFormat<'v> {
     /// At the value, which is begun, as the one member of `Whole`. `spelling` is of no object: at
     /// level 0 none is begun.
     pub(crate) fn new(alloc: Global, value: &'v JsonValue) -> TreeFormat<'v> {
-        let frame = Frame {
-            container: Container::Whole(value),
-            begun: 1,
-            level: 0,
-        };
         TreeFormat {
             alloc,
             frames: Vec::new(alloc),
             kept: 0,
-            place: Place {
-                frame,
-                due: Due::Value(value),
+            frame: Frame {
+                container: Container::Whole(value),
+                begun: 1,
+                level: 0,
             },
+            due: Due::Value(value),
             key: None,
             unknown: None,
             asked: Asked::Nothing,
-            spelling: Spelling {
-                level: 0,
-                begun: 0,
-                cases: 0,
-            },
+            spelling: Spelling::default(),
         }
     }
 
     /// Fails unless the value was read to its end.
     pub(crate) fn end(&self) -> Result<(), Fault> {
-        match (self.place.due, self.place.frame.container) {
+        match (self.due, self.frame.container) {
             (Due::Nothing, Container::Whole(_)) => Ok(()),
             _ => Err(self.misused()),
         }
@@ -134,7 +123,7 @@ impl<'v> TreeFormat<'v> {
     /// The value that is due. A key has to be a string's, a number's or a boolean's.
     #[inline(always)]
     pub(crate) fn look(&self) -> Result<&'v JsonValue, Fault> {
-        match self.place.due {
+        match self.due {
             Due::Value(value) => Ok(value),
             Due::Key(_, _) => Err(self.unfit("a key of its type")),
             Due::Nothing => Err(self.misused()),
@@ -142,24 +131,14 @@ impl<'v> TreeFormat<'v> {
     }
 
     #[inline(always)]
-    pub(crate) fn pass(&mut self) {
-        self.place.due = Due::Nothing;
-    }
-
-    /// Goes into a container.
-    #[inline(always)]
     pub(crate) fn enter(&mut self, container: Container<'v>) -> Result<(), Fault> {
-        if self.frames.push(self.place.frame).is_err() {
-            return Err(Fault::MEMORY);
-        }
-        self.place = Place {
-            frame: Frame {
-                container,
-                begun: 0,
-                level: self.frames.len(),
-            },
-            due: Due::Nothing,
+        self.frames.push(self.frame)?;
+        self.frame = Frame {
+            container,
+            begun: 0,
+            level: self.frames.len(),
         };
+        self.due = Due::Nothing;
         Ok(())
     }
 
@@ -167,11 +146,11 @@ impl<'v> TreeFormat<'v> {
     /// after it.
     #[inline(always)]
     pub(crate) fn leave(&mut self) {
-        let below = self.place.frame.level.saturating_sub(1);
+        let below = self.frame.level.saturating_sub(1);
         if let Some(frame) = self.frames.get(below) {
-            self.place.frame = *frame;
+            self.frame = *frame;
         }
-        self.place.due = Due::Nothing;
+        self.due = Due::Nothing;
         if self.frames.len() > self.kept {
             self.frames.truncate(below.max(self.kept));
         }
@@ -180,11 +159,10 @@ impl<'v> TreeFormat<'v> {
     /// The next entry of an object.
     #[inline(always)]
     pub(crate) fn entry(&mut self) -> Result<Option<(&'v str, &'v JsonValue)>, Fault> {
-        let (Container::Map(object), Due::Nothing) = (self.place.frame.container, self.place.due)
-        else {
+        let (Container::Map(object), Due::Nothing) = (self.frame.container, self.due) else {
             return Err(self.misused());
         };
-        let Some(entry) = object.get_index(self.place.frame.begun) else {
+        let Some(entry) = object.get_index(self.frame.begun) else {
             self.leave();
             return Ok(None);
         };
@@ -195,7 +173,7 @@ impl<'v> TreeFormat<'v> {
     /// The next member begins: no error of it names the key of the one before, or what was asked.
     #[inline(always)]
     pub(crate) fn begin_member(&mut self) {
-        self.place.frame.begun = self.place.frame.begun.saturating_add(1);
+        self.frame.begun = self.frame.begun.saturating_add(1);
         self.asked = Asked::Nothing;
         self.key = None;
     }
@@ -206,66 +184,54 @@ impl<'v> TreeFormat<'v> {
         if let Some(key) = self.key() {
             return Ok(key);
         }
-        let Some(text) = self.look()?.as_str() else {
-            return Err(self.expected(Expected::String));
+        let text = self.look()?.as_str();
+        self.taken(text, Expected::String)
+    }
+
+    /// Passes over the value that is due, if it is what is expected.
+    #[inline(always)]
+    pub(crate) fn taken<T>(&mut self, found: Option<T>, expected: Expected) -> Result<T, Fault> {
+        let Some(found) = found else {
+            return Err(self.expected(expected));
         };
-        self.pass();
-        Ok(text)
+        self.due = Due::Nothing;
+        Ok(found)
     }
 
     /// Reads the key that is due, if one is.
     #[inline(always)]
     pub(crate) fn key(&mut self) -> Option<&'v str> {
-        let Due::Key(key, value) = self.place.due else {
+        let Due::Key(key, value) = self.due else {
             return None;
         };
-        self.place.due = Due::Value(value);
+        self.due = Due::Value(value);
         self.key = Some(key);
         Some(key)
     }
 
-    /// The number that is due. NaN is none.
-    #[inline(always)]
-    pub(crate) fn number(&mut self) -> Result<Number, Fault> {
-        match self.look()?.as_number() {
-            Some(number) if !number.is_nan() => {
-                self.pass();
-                Ok(number)
-            }
-            _ => Err(self.expected(Expected::Number)),
-        }
-    }
-
-    /// Keeps how the names of an object that ended are spelled, with those of other structs that
-    /// share the object.
+    /// Keeps in which cases the names are spelled by which an object was read, once it was left: so
+    /// `frame` is around it. If another struct was read from it (`flatten`), its cases stay too.
     #[inline(always)]
     pub(crate) fn note_spelling(&mut self, names: &[Name<'_>]) {
         if !self.is_spelled_here() {
             self.spelling = Spelling {
-                level: self.place.frame.level,
-                begun: self.place.frame.begun,
+                level: self.frame.level,
+                begun: self.frame.begun,
                 cases: 0,
             };
         }
-        self.spelling.cases |= cases_of(names);
+        // A skipped name spells no key.
+        for name in names.iter().filter(|name| !name.skipped) {
+            self.spelling.cases |= case_bit(name.case);
+        }
     }
 
     /// Whether the spelling is of the object that ended just now.
     #[inline(always)]
     pub(crate) fn is_spelled_here(&self) -> bool {
-        let frame = self.place.frame;
+        let frame = self.frame;
         self.spelling.level == frame.level && self.spelling.begun == frame.begun
     }
-}
-
-/// The bit (`case_bit`) of each case in which the names spell a key. A skipped name spells none.
-#[inline(always)]
-fn cases_of(names: &[Name<'_>]) -> u16 {
-    let mut cases = 0;
-    for name in names.iter().filter(|name| !name.skipped) {
-        cases |= case_bit(name.case);
-    }
-    cases
 }
 
 /// A bit of its own for each case, in `Spelling::cases`.

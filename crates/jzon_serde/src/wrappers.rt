@@ -15,10 +15,10 @@ use serde::{
     Described, Deserialize, DeserializeOwned, Deserializer, Format, Kind, Serialize, Serializer,
 };
 use std::alloc::Global;
-use std::fmt;
 use std::fmt::{InlineText, Write};
 use std::ops::Deref;
 use std::result::Result;
+use std::{fmt, str};
 
 /// What `Exact` says before its digits; no type's own words begin so.
 pub(crate) const EXACT: &str = "\0jzon_serde::Exact ";
@@ -139,7 +139,6 @@ fn send_number<S: Serializer>(number: Number, out: &mut S) -> Result<(), S::Erro
     out.begin_seq(None)
 }
 
-/// Writes any value.
 #[cycle(send)]
 fn send<S: Serializer>(value: &JsonValue, out: &mut S, depth: usize) -> Result<(), S::Error> {
     match value {
@@ -155,7 +154,6 @@ fn send<S: Serializer>(value: &JsonValue, out: &mut S, depth: usize) -> Result<(
     }
 }
 
-/// Writes the elements of an array.
 #[cycle(send)]
 fn send_items<S: Serializer>(
     items: &Vec<JsonValue>,
@@ -169,7 +167,6 @@ fn send_items<S: Serializer>(
     out.end_seq()
 }
 
-/// Writes the entries of an object.
 #[cycle(send)]
 fn send_entries<S: Serializer>(object: &Object, out: &mut S, depth: usize) -> Result<(), S::Error> {
     out.begin_map(Some(object.len()))?;
@@ -210,20 +207,19 @@ fn fetch_number<F: Format>(
     from: &mut Deserializer<'_, '_, F>,
 ) -> Result<Number, F::Error> {
     let mark = from.mark();
-    match from.byte_buf(alloc) {
-        Ok(bytes) => {
-            let text = std::str::from_utf8(bytes.as_slice()).ok();
-            if let Some(number) = text.and_then(number_of) {
-                from.release(mark);
-                return Ok(number);
-            }
-        }
+    let number = match from.byte_buf(alloc) {
+        Ok(bytes) => str::from_utf8(bytes.as_slice()).ok().and_then(number_of),
         Err(error) if from.is_fatal(&error) => return Err(error),
-        Err(_other) => {}
+        Err(_other) => None,
+    };
+    if number.is_none() {
+        from.rewind(mark);
     }
-    from.rewind(mark);
     from.release(mark);
-    fetch_float(from)
+    match number {
+        Some(number) => Ok(number),
+        None => fetch_float(from),
+    }
 }
 
 /// The number of a float's shortest text.
@@ -263,7 +259,6 @@ fn stored(text: String) -> JsonValue {
     JsonValue::String(text)
 }
 
-/// Reads any value.
 #[cycle(fetch)]
 fn fetch<F: Format>(
     alloc: Global,
@@ -271,10 +266,7 @@ fn fetch<F: Format>(
     depth: usize,
 ) -> Result<JsonValue, F::Error> {
     match from.peek()? {
-        Kind::Unit => {
-            from.skip()?;
-            Ok(JsonValue::Null)
-        }
+        Kind::Unit => from.skip().map(|()| JsonValue::Null),
         Kind::Bool => Ok(JsonValue::Boolean(from.bool()?)),
         Kind::Unsigned => Ok(JsonValue::from(from.u64()?)),
         Kind::Signed => Ok(JsonValue::from(from.i64()?)),
@@ -299,9 +291,8 @@ fn fetch_items<F: Format>(
         if !from.next_item()? {
             break;
         }
-        if items.push(fetch(alloc, from, depth)?).is_err() {
-            return Err(from.no_memory());
-        }
+        let item = fetch(alloc, from, depth)?;
+        items.push(item).map_err(|_| from.no_memory())?;
     }
     Ok(items)
 }
@@ -321,13 +312,10 @@ fn fetch_entries<F: Format>(
             break;
         }
         let text = from.string(alloc)?;
-        let Ok(key) = Key::new(alloc, text.as_str()) else {
-            return Err(from.no_memory());
-        };
+        let key = Key::new(alloc, text.as_str()).map_err(|_| from.no_memory())?;
         let value = fetch(alloc, from, depth)?;
-        if keys.push(key).is_err() || values.push(value).is_err() {
-            return Err(from.no_memory());
-        }
+        keys.push(key).map_err(|_| from.no_memory())?;
+        values.push(value).map_err(|_| from.no_memory())?;
     }
     Object::from_entries(alloc, keys, values).map_err(|_| from.no_memory())
 }
