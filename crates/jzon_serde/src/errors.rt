@@ -22,7 +22,8 @@ impl<'v> TreeFormat<'v> {
         begun_last(self.around(&self.frame)?)
     }
 
-    /// The key that is due, or was read last, if its value isn't begun.
+    /// The key that an error is of: the one that is due, or that was just read as a map's key, until a
+    /// step takes its value or asks what it is. (`next_key` keeps none: of a field the value is wrong.)
     pub(crate) fn key_at_hand(&self) -> Option<&'v str> {
         match self.due {
             Due::Key(key, _) => Some(key),

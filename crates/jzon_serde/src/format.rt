@@ -316,7 +316,8 @@ impl<'v> Format for TreeFormat<'v> {
         }
     }
 
-    /// Enters a struct's object, or an array of its fields (`true`), whose keys aren't known.
+    /// Enters a struct's object, or (`true`) an array of its fields. The array has no keys by which
+    /// `missing` could name a field, so it has no spelling.
     #[inline(always)]
     fn begin_struct(&mut self, _input: &[u8]) -> Result<bool, Fault> {
         match self.look()? {

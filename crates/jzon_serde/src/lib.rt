@@ -51,6 +51,9 @@ pub fn from_value<T: DeserializeOwned>(alloc: Global, value: &JsonValue) -> Resu
 /// Reads a type of `serde` from a text, strictly and exactly: a repeated key, and a number that would
 /// be cut, are errors. The error of a wrong value has its place in the text.
 ///
+/// The clauses: a text that such a reading rejects is never read, and its error is that reading's. An
+/// error about a value comes only of a text that is accepted, and its place, if it has one, is in it.
+///
 /// ```rust
 /// let mut config: Config = jzon_serde::from_str(alloc, text)?;
 /// ```

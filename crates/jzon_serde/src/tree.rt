@@ -150,6 +150,10 @@ impl<'v> TreeFormat<'v> {
         if let Some(frame) = self.frames.get(below) {
             self.frame = *frame;
         }
+        // Of an object in the container that is left, it would seem to be of one elsewhere.
+        if self.spelling.level > below {
+            self.spelling.cases = 0;
+        }
         self.due = Due::Nothing;
         if self.frames.len() > self.kept {
             self.frames.truncate(below.max(self.kept));

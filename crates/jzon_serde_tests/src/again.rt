@@ -79,6 +79,7 @@ fn structure(alloc: Global, kind: &str, text: &str) -> Option<Read> {
         "Camel" => Some(written::<Camel>(alloc, text)),
         "Mixed" => Some(written::<Mixed>(alloc, text)),
         "Mixeds" => Some(written::<Vec<Mixed>>(alloc, text)),
+        "Lists" => Some(written::<(Vec<Camel>, Vec<Limits>)>(alloc, text)),
         "Options" => Some(written::<Options>(alloc, text)),
         "Limits" => Some(written::<Limits>(alloc, text)),
         "Flat" => Some(written::<Flat>(alloc, text)),

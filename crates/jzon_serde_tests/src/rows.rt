@@ -271,6 +271,7 @@ const STRUCTS: &[Row] = rows! {
     ("Mixed", "{\"longName\": 1}", "the field ID is missing at (1:1)")
     ("Mixeds", "[{\"ID\": 1, \"longName\": 2}, {\"ID\": 1}]", "/1: the field long_name is missing at (1:28)")
     ("Mixeds", "[{\"ID\": 1, \"longName\": 2}, [1, 2]]", "/1: the field color is missing at (1:28)")
+    ("Lists", "[[{\"firstName\": \"a\", \"portNumber\": 80}], [{\"timeout\": 5}]]", "/1/0/max-size: missing, expected a value at (1:43)")
 };
 
 /// Structs with more of serde's attributes, and structs in structs.
