@@ -2,7 +2,7 @@
 
 ghost use Rattle.std.specs.Prelude.{◌≡◌, ◌<◌, ◌≤◌, ◌+◌, ◌↔◌, length, IsTrue, slice_index};
 
-/// The byte at `index`, or 0 past the end of the text. No token begins with 0.
+/// The byte at `index`, or 0 past the end: no token begins with 0.
 #[inline(always)]
 pub(crate) fn byte_at(source: &str, index: usize) -> u8
     ensures { result ≡ slice_index source.now index }
@@ -13,6 +13,7 @@ pub(crate) fn byte_at(source: &str, index: usize) -> u8
     }
 }
 
+/// Whether the text has this byte at `index`; `false` past its end.
 pub(crate) fn has_byte(source: &str, index: usize, byte: u8) -> bool
     ensures { IsTrue result
         ↔ ((index < length source.now) × (slice_index source.now index ≡ byte)) }
@@ -21,7 +22,7 @@ pub(crate) fn has_byte(source: &str, index: usize, byte: u8) -> bool
     index < bytes.len() && bytes[index] == byte
 }
 
-/// Whether the four bytes from `index` on are `four`. They are compared at once, as one `u32`.
+/// Whether the bytes from `index` on begin with `four`, compared at once as one `u32`.
 #[inline(always)]
 pub(crate) fn has_four(source: &str, index: usize, four: [u8; 4]) -> bool
     requires { index ≤ length source.now }

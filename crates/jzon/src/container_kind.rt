@@ -16,7 +16,7 @@ pub(crate) enum ContainerKind {
 }
 
 impl ContainerKind {
-    /// The kind of container whose opening bracket this byte is, if it is one.
+    /// The kind that this byte, `[` or `{`, opens; `None` for any other byte.
     #[inline(always)]
     pub(crate) fn opened_by(first: u8) -> Option<ContainerKind>
         ensures { MatchOption result ((first ≢ begin_array) × (first ≢ begin_object))
@@ -29,7 +29,7 @@ impl ContainerKind {
         }
     }
 
-    /// A container of this kind without items. It allocates nothing.
+    /// An empty container of this kind. It allocates nothing.
     #[inline(always)]
     pub(crate) fn empty(self, alloc: Global) -> JsonValue
         ensures { view result ≡ empty_container self }
@@ -40,7 +40,6 @@ impl ContainerKind {
         }
     }
 
-    /// The bracket that closes it.
     #[inline(always)]
     pub(crate) fn closer(self) -> u8
         ensures { result ≡ closer self }

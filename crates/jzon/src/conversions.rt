@@ -15,8 +15,8 @@ use jzon_tree::value::JsonValue;
 use std::alloc::Global;
 
 /// The JSON value that `value` converts into: a number, a string, a `bool`, an option, a vector, a
-/// map, or a type of your own that is `IntoJson`. Fails with `OutOfMemory` only, and never if the
-/// conversion is free, as for integers and booleans.
+/// map, or a type of your own that is `IntoJson`. Fails with `OutOfMemory` only, and never if
+/// `T::is_free` holds, as for integers and booleans.
 ///
 /// ```rust
 /// *data.at_mut(alloc, "count")? = jzon::from(alloc, 1u8)?;
@@ -29,8 +29,8 @@ pub fn from<T: IntoJson>(alloc: Global, value: T) -> Result<JsonValue>
     value.into_json(alloc)
 }
 
-/// The compact text of the value that `root` converts into. Fails as `dump` does: with
-/// `OutOfMemory`, or with `ExceededDepthLimit` at a nesting of 2^64 or more.
+/// The text, without whitespace, of the value that `root` converts into. Fails with `OutOfMemory`,
+/// or with `ExceededDepthLimit` at a nesting of 2^64 or more.
 ///
 /// ```rust
 /// let text = jzon::stringify(alloc, "text")?;   // "text", in quotes
@@ -45,7 +45,8 @@ pub fn stringify<T: IntoJson>(alloc: Global, root: T) -> Result<String>
 }
 
 /// The text of the value that `root` converts into, with a line for each element or entry and
-/// `spaces` spaces for each container around it. Fails as `stringify` does.
+/// `spaces` spaces for each container around it. Fails with `OutOfMemory`, or with
+/// `ExceededDepthLimit` at a nesting of 2^64 or more.
 pub fn stringify_pretty<T: IntoJson>(alloc: Global, root: T, spaces: u16) -> Result<String>
     ensures text { IfOk result
         (λ text. (v : Value) × T.means root v × IsValue v × (string_bytes text ≡ pretty v spaces 0)

@@ -1,6 +1,5 @@
-//! A text and the offset up to which it is read, with the moves past brackets, commas and colons
-//! and the whitespace after them. Clauses compare them with the moves of an automaton, for any open
-//! containers `fs` (docs/ARCHITECTURE.md, "How the parser is proved").
+//! Moves in a text past brackets, commas and colons and the whitespace after them. Clauses compare
+//! them with the moves of an automaton (docs/ARCHITECTURE.md), for any open containers `fs`.
 
 ghost use Rattle.std.specs.Prelude.{◌≡◌, ◌≢◌, ◌<◌, ◌≤◌, ◌+◌, length, chars, drop, false, slice_index, Err, IfOk, None, if◌then◌else◌};
 ghost use Rattle.std.specs.Str.{IsCharBoundary, IsUtf8};
@@ -14,7 +13,7 @@ use crate::reading::Reading;
 use crate::stop::{Result, Stop, fault_at, too_deep};
 use crate::whitespace::skip_whitespace;
 
-/// A text, the offset up to which it is read, and how it is read. No whitespace is at the offset.
+/// A text, the offset up to which it is read, and how. The offset is never at whitespace.
 #[derive(Clone, Copy)]
 pub(crate) struct Cursor<'a> {
     pub(crate) source: &'a str,
@@ -30,7 +29,7 @@ pub(crate) struct Cursor<'a> {
 impl<'a> Cursor<'a> {
     ghost use Rattle.jzon.specs.Private.Cursor.{next_byte, IsPast, GoesOn, EndsItem, EndsKey};
 
-    /// The cursor before the first token of a text, after any whitespace.
+    /// The cursor at the first token of a text, or at its end.
     pub(crate) fn new(source: &'a str, reading: Reading) -> Cursor<'a>
         ensures { IsPast reading source.now 0 result }
     {
@@ -41,7 +40,7 @@ impl<'a> Cursor<'a> {
         }
     }
 
-    /// The next byte, or 0 at the end.
+    /// The byte at the cursor, or 0 at the end of the text.
     #[inline(always)]
     pub(crate) fn peek(&self) -> u8
         ensures { result ≡ next_byte self.now }
@@ -58,8 +57,7 @@ impl<'a> Cursor<'a> {
         self.index = skip_whitespace(self.source, self.reading, end);
     }
 
-    /// Moves past the next byte, an ASCII character that is a token by itself, and the whitespace
-    /// after it.
+    /// Moves past the byte at the cursor, a bracket or a colon, and the whitespace after it.
     #[inline(always)]
     pub(crate) fn bump(&mut self)
         requires some { 0 < next_byte self.old }
@@ -69,7 +67,7 @@ impl<'a> Cursor<'a> {
         self.go_to(self.index + 1);
     }
 
-    /// The stop for a text that goes wrong here.
+    /// The stop for a text that has no valid continuation at the cursor.
     #[inline(always)]
     pub(crate) fn fault(&self) -> Stop
         ensures { Reports self.now.source.now result
@@ -78,10 +76,9 @@ impl<'a> Cursor<'a> {
         fault_at(self.source, self.index)
     }
 
-    /// Moves past the opening bracket that comes next, inside of `depth` containers; of an empty
-    /// container, past the closing one too, and returns `true`. Of another one, fails at the end of
-    /// the text (`Stop::At`), and else if `depth` is the most that the reading allows
-    /// (`Stop::Limit`).
+    /// Moves past the opening bracket at the cursor, inside of `depth` containers. If the container
+    /// is empty, moves past the closing one too, and returns `true`. Else returns `false`, or
+    /// fails: at the end of the text, or if `depth` is the most that the reading allows.
     #[inline(always)]
     pub(crate) fn open_container(&mut self, kind: ContainerKind, depth: usize) -> Result<bool>
         requires room { depth ≤ self.old.reading.depth }
@@ -112,9 +109,9 @@ impl<'a> Cursor<'a> {
         Ok(false)
     }
 
-    /// Moves past the comma or the closing bracket after an element or an entry that ends at `end`.
-    /// Returns whether the container ends; fails if neither follows. Whitespace, which most texts
-    /// don't have there, is skipped only if neither is at `end`.
+    /// Moves past the comma or closing bracket after an element or entry that ends at `end`.
+    /// Returns whether the container ends; fails if neither follows. Whitespace, rare there, is
+    /// skipped only if neither is at `end`.
     #[inline(always)]
     pub(crate) fn end_item(&mut self, end: usize, kind: ContainerKind) -> Result<bool>
         requires boundary { IsCharBoundary self.old.source.now end }
@@ -134,8 +131,8 @@ impl<'a> Cursor<'a> {
         Ok(next != b',')
     }
 
-    /// Moves past the colon after the key that ends at `end`; fails if none follows. Whitespace
-    /// before the colon is skipped only if no colon is at `end`.
+    /// Moves past the colon after the key that ends at `end`, most often right there; fails if none
+    /// follows.
     #[inline(always)]
     pub(crate) fn pass_colon(&mut self, end: usize) -> Result<()>
         requires boundary { IsCharBoundary self.old.source.now end }

@@ -1,6 +1,4 @@
 //! An error with its place in the text (docs/RULES.md, "Errors").
-//!
-//! In clauses, `located_text` is the text that a `LocatedError` is printed as.
 
 ghost use Rattle.std.specs.IoError.{error_kind};
 ghost use Rattle.std.specs.Prelude.{◌≡◌, Some};
@@ -18,7 +16,7 @@ pub struct LocatedError {
     pub place: Option<Place>,
 }
 
-/// The words of the error, and `at (L:K)` if these don't have it: `Unexpected end of JSON at (1:5)`.
+/// Prints the error, and its place if its words lack it: `Unexpected end of JSON at (1:5)`.
 impl fmt::Display for LocatedError {
     ghost output = { λ e. Some (located_text e) };
 
@@ -33,8 +31,8 @@ impl fmt::Display for LocatedError {
 
 impl std::error::Error for LocatedError {}
 
-/// So that `?` works in a `main` that returns an `io::Result`. The message is what `Display` prints;
-/// the kind is that of the error alone.
+/// So that `?` works in a `main` that returns an `io::Result`. The message is what `Display`
+/// prints; the kind is `OutOfMemory`, `UnexpectedEof` at the text's end, or else `InvalidData`.
 impl From<LocatedError> for io::Error {
     ghost from_gives = { λ l i. error_kind i ≡ io_kind l.error };
 

@@ -1,6 +1,5 @@
-//! Macros that write a value in the form of its text (docs/RULES.md, "Conversions"). They pass the
-//! value from call to call, so a function that builds one holds nothing of it to drop when a call
-//! fails, and is cheaper to prove.
+//! Macros that write a value in the form of its text (docs/RULES.md, "Conversions"). The value is
+//! passed from call to call, so that a failed call leaves nothing to drop, and proofs are cheap.
 
 ghost use Rattle.std.specs.Prelude.{◌≡◌, true, IfOk, IfErr, OnOk, codes};
 ghost use Rattle.jzon_tree.specs.Changers.{IsRefusal, with_item, with_entry};
@@ -13,7 +12,8 @@ use jzon_tree::into_json::IntoJson;
 use jzon_tree::value::JsonValue;
 use std::alloc::Global;
 
-/// `push`, but the array is passed on: for the code of `array!`. After an error it is dropped.
+/// Pushes the item and returns the array, for the code of `array!`. An error (memory, or no array)
+/// drops it.
 #[doc(hidden)]
 pub fn with_item<T: IntoJson>(alloc: Global, mut array: JsonValue, item: T) -> Result<JsonValue>
     ensures ok { IfOk result
@@ -25,7 +25,8 @@ pub fn with_item<T: IntoJson>(alloc: Global, mut array: JsonValue, item: T) -> R
     Ok(array)
 }
 
-/// `insert`, but the object is passed on: for the code of `object!`. After an error it is dropped.
+/// Inserts the entry, or replaces the value of the key, and returns the object, for the code of
+/// `object!`. An error (memory, or no object) drops it.
 #[doc(hidden)]
 pub fn with_entry<T: IntoJson>(
     alloc: Global,
@@ -62,8 +63,8 @@ macro_rules! value {
     };
 }
 
-/// An array of elements separated by commas; a trailing comma is allowed. An element is anything
-/// that `value!` takes, and an error is propagated as there.
+/// An array of elements separated by commas, a trailing one allowed. An element is anything that
+/// `value!` takes, and an error is propagated with `?`.
 ///
 /// ```rust
 /// let list = jzon::array![alloc; 1u8, "two", null];
@@ -78,11 +79,11 @@ macro_rules! array {
     }};
 }
 
-/// An object of entries separated by commas; a trailing comma is allowed. An entry is a key, `:`
-/// and anything that `value!` takes, where a key is an identifier, a string literal or
-/// `[expression]`; or it is `key => value`, where the key is an expression. Key expressions are of
-/// type `&str`. Of a repeated key the last value is kept, at the position of the first. An error is
-/// propagated as in `value!`.
+/// An object of entries separated by commas, a trailing one allowed. An entry is `key: value`, with
+/// anything that `value!` takes, and an identifier, a string literal or `[expression]` as its key;
+/// or it is `key => value`, with an expression as its key. Key expressions are of type `&str`. Of a
+/// repeated key the last value is kept, at the position of the first. An error is propagated with
+/// `?`.
 ///
 /// ```rust
 /// let built = jzon::object! {alloc; a: 5u8, "b": [true, null], c: list};
@@ -97,8 +98,8 @@ macro_rules! object {
     }};
 }
 
-/// The value of an element or an entry: for `null`, `[..]` and `{..}` that of `value!`; any other
-/// expression is left as it is, for `with_item` and `with_entry` to convert.
+/// Of `null`, `[..]` and `{..}` what `value!` makes; any other expression as it is, for `with_item`
+/// and `with_entry` to convert.
 #[doc(hidden)]
 #[macro_export]
 macro_rules! source {
@@ -116,8 +117,8 @@ macro_rules! source {
     };
 }
 
-/// Pushes the elements. One token tree, such as `null` or `[..]`, is taken by the second rule, and
-/// any longer expression by the third.
+/// Pushes the items. The second rule takes one token tree, such as `null` or `[..]`, which
+/// `source!` can match; the third any longer expression.
 #[doc(hidden)]
 #[macro_export]
 macro_rules! push_items {
@@ -134,7 +135,7 @@ macro_rules! push_items {
     };
 }
 
-/// Inserts the pairs into the object, one after another.
+/// Inserts the entries one after another, with a rule for each form of key.
 #[doc(hidden)]
 #[macro_export]
 macro_rules! insert_pairs {
@@ -153,7 +154,8 @@ macro_rules! insert_pairs {
     };
 }
 
-/// Inserts an entry, and then those after it.
+/// Inserts the entry of this key, then those after it. Only a value of one token tree needs
+/// `source!`.
 #[doc(hidden)]
 #[macro_export]
 macro_rules! insert_value {

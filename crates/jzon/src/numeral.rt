@@ -1,6 +1,7 @@
-//! Reads numbers (RFC 8259, section 6; docs/RULES.md, "Numbers"). Clauses speak of an automaton
-//! (docs/ARCHITECTURE.md, "How the parser is proved"), for any reading `r` and any open containers
-//! `fs`.
+//! Reads numbers (RFC 8259, section 6; docs/RULES.md, "Numbers"). `whole` are the digits before the
+//! point, `fraction` those after it. A digit is *too many* beyond the limits on digits, and *lost*
+//! if it is dropped and isn't 0. Clauses compare with an automaton (docs/ARCHITECTURE.md), for any
+//! reading `r` and open containers `fs`.
 
 ghost use Rattle.std.specs.Prelude.{◌≡◌, ℕ, pos, List, [], ◌∷◌, ◌<◌, ◌≤◌, ◌+◌, ◌-◌, ◌%◌, ◌^◌, ◌++◌, length, drop, chars, not, Bool, true, false, ◌==◌, ◌↔◌, IsTrue, IfOk, IfErr, OkIff, slice_index, if◌then◌else◌};
 ghost use Rattle.std.specs.Char.{is_ascii_digit};
@@ -26,9 +27,9 @@ use crate::stop::{Result, Stop, fault_at};
 use jzon_base::digits::{NumberFault, read_digits, read_scanned, scan};
 use jzon_base::number::Number;
 
-/// The number whose first digit is at `start`, after a minus if it is `negative`, and the offset
-/// after it. Fails if it has too many digits or, if only `exact` numbers are read, isn't
-/// exact, and else if a digit is missing.
+/// The number whose first digit is at `start`, after a minus if `negative`, and the offset after
+/// it. Fails at the first digit that is too many or, if `exact`, is lost or clamps the exponent
+/// (unless the mantissa is 0); and else where a digit is missing.
 #[inline(always)]
 pub(crate) fn read_number(
     exact: bool,
@@ -54,8 +55,7 @@ pub(crate) fn read_number(
         spelling.exponent,
         spelling.written,
     );
-    // The sign and the end aren't returned by `read_rare`, since a value that may come from either
-    // call is a move on the usual path.
+    // `read_rare` returns no sign and no end, since a result of either of two calls is moved.
     let (mantissa, exponent) = match parts {
         Some(parts) => parts,
         None => read_rare(
@@ -75,8 +75,8 @@ pub(crate) fn read_number(
     Ok((number, spelling.end))
 }
 
-/// The mantissa and the exponent of a number that `read_scanned` doesn't read. Its first digit is at
-/// `start`, and its last is before `end`: these two only give an error its place.
+/// The mantissa and exponent of a number of more than 19 digits, or 4 in the exponent. It is from
+/// `start` to `end`, which only give an error its offset.
 #[inline(always)]
 fn read_rare(
     exact: bool,
@@ -106,8 +106,8 @@ fn read_rare(
     }
 }
 
-/// The stop at a digit of the number whose first digit is at `start`, which has `whole` digits
-/// before the point, and those of its exponent from `exponent` on.
+/// The stop for `fault`, which counts digits from the first, at `start`, without the point after
+/// `whole` digits; `OutOfRange` from the exponent's first, at `exponent`.
 #[cold]
 #[inline(never)]
 fn stop_at(fault: NumberFault, start: usize, whole: usize, exponent: usize) -> Stop
@@ -121,8 +121,8 @@ fn stop_at(fault: NumberFault, start: usize, whole: usize, exponent: usize) -> S
     }
 }
 
-/// The offset of the digit at this position among those before and after the point, of which `whole`
-/// are before it, from `start` on.
+/// The offset of the digit at this position: the first is at `start`, and after `whole` digits is a
+/// point.
 fn digit_offset(start: usize, whole: usize, position: usize) -> usize
     requires { digit_offset start whole position < 2 ^ 64 }
     ensures { result ≡ digit_offset start whole position }
@@ -134,16 +134,16 @@ fn digit_offset(start: usize, whole: usize, position: usize) -> usize
     }
 }
 
-/// The digits of a number in a text.
+/// The parts of a number in a text; absent ones are empty.
 #[derive(Clone, Copy)]
 struct Spelling<'a> {
     whole: &'a [u8],
     fraction: &'a [u8],
-    /// The number that the digits of both spell, modulo 2^64.
+    /// The number that `whole` and `fraction` spell as one text, modulo 2^64.
     number: u64,
     positive_exponent: bool,
     exponent: &'a [u8],
-    /// The number that its digits spell, modulo 2^64.
+    /// The number that `exponent` spells, modulo 2^64.
     written: u64,
     /// The offset after the number.
     end: usize,
@@ -156,8 +156,8 @@ struct Spelling<'a> {
     ghost written_up: { written ≡ digits_number exponent.now % 2 ^ 64 },
 }
 
-/// The digits of the number whose first digit is at `start`. The last three clauses say where a
-/// digit is too many, is lost, or takes the number out of range.
+/// The parts of the number whose first digit is at `start`. `leaves` is for a digit that takes the
+/// exponent out of range.
 #[inline(always)]
 fn spelling_at(source: &str, start: usize) -> Spelling<'_>
     requires within { start < length source.now }
@@ -201,7 +201,7 @@ fn spelling_at(source: &str, start: usize) -> Spelling<'_>
     }
 }
 
-/// The digits up to the exponent, which is empty in the result.
+/// The number whose first digit is at `start`, up to its exponent, which is empty in the result.
 #[inline(always)]
 fn magnitude_at(source: &str, start: usize) -> Spelling<'_>
     requires within { start < length source.now }
@@ -253,8 +253,8 @@ fn magnitude_at(source: &str, start: usize) -> Spelling<'_>
     }
 }
 
-/// The digits before the point, a single `0` or all digits from `start` on, and their number modulo
-/// 2^64. One or two before a point need no scan.
+/// The digits before the point, a single `0` or all from `start` on, and their number modulo 2^64.
+/// One or two before a point need no `scan`.
 #[inline(always)]
 fn before_point(source: &str, start: usize) -> (&[u8], u64)
     requires within { start < length source.now }
@@ -278,8 +278,8 @@ fn before_point(source: &str, start: usize) -> (&[u8], u64)
     digits_at(source, start, 0)
 }
 
-/// The digits from `start` on, and the number that they make when appended to the digits of
-/// `before`, both modulo 2^64.
+/// The digits from `start` on, maybe none, and the number that they spell when appended to the
+/// digits of `before`, both modulo 2^64.
 #[inline]
 fn digits_at(source: &str, start: usize, before: u64) -> (&[u8], u64)
     requires { start ≤ length source.now }
@@ -292,12 +292,12 @@ fn digits_at(source: &str, start: usize, before: u64) -> (&[u8], u64)
     (&rest[..count], number)
 }
 
-/// The digits of an exponent, maybe none, and the offset after them.
+/// An exponent, maybe without digits, and its end.
 #[derive(Clone, Copy)]
 struct Exponent<'a> {
     is_positive: bool,
     digits: &'a [u8],
-    /// The number that they spell, modulo 2^64.
+    /// The number that `digits` spell, modulo 2^64.
     number: u64,
     end: usize,
 }
@@ -341,8 +341,8 @@ fn exponent_after(source: &str, start: usize) -> Exponent<'_>
     }
 }
 
-/// The digits from `start` on, and their number modulo 2^64. Not inlined, because few numbers have
-/// an exponent.
+/// The digits from `start` on, maybe none, and their number modulo 2^64. Not inlined, because few
+/// numbers have an exponent.
 #[cold]
 #[inline(never)]
 fn exponent_digits(source: &str, start: usize) -> (&[u8], u64)
@@ -353,6 +353,7 @@ fn exponent_digits(source: &str, start: usize) -> (&[u8], u64)
     digits_at(source, start, 0)
 }
 
+/// Whether an `e` or `E` is at `index`.
 fn has_exponent_letter(source: &str, index: usize) -> bool
     ensures { IsTrue result ↔ ((index < length source.now)
         × IsTrue (is_exponent_letter (slice_index source.now index))) }

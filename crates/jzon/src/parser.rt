@@ -1,6 +1,7 @@
-//! Parses texts (RFC 8259, section 2; docs/RULES.md, "Texts"). Bytes are read in loops, without
-//! recursion. Most methods promise `GoesOn`: they agree with an automaton (docs/ARCHITECTURE.md,
-//! "How the parser is proved"). `left` is its outcome over the rest of the text, from a state.
+//! Parses texts (RFC 8259, section 2; docs/RULES.md, "Texts") in loops, without recursion. By
+//! `GoesOn` a method agrees with an automaton (docs/ARCHITECTURE.md, "How the parser is proved");
+//! `left` is its outcome over the rest of the text, from a state. An *item* is an element or an
+//! entry.
 
 ghost use Rattle.std.specs.Prelude.{◌≡◌, ◌≢◌, ◌<◌, ◌+◌, length, chars, IfOk, IfErr, Err, None, Some, OnOk, true};
 ghost use Rattle.jzon_tree.specs.View.{view};
@@ -54,11 +55,10 @@ pub fn parse(alloc: Global, source: &str) -> Result<JsonValue>
     parse_as(alloc, source, &Reading::USUAL)
 }
 
-/// The value that a text means by `reading` (docs/RULES.md, "Readings"), which sets how many
-/// containers may be open, in place of 512. A strict one rejects vertical tabs and form feeds, and
-/// a repeated key with `DuplicateKey`, which has the line and column of the key's opening quote.
-/// An exact one rejects a number with `InexactNumber`, at the first digit by which it isn't exact.
-/// All else is as with `parse`.
+/// The value that a text means by `reading` (docs/RULES.md, "Readings"), whose depth replaces the
+/// 512 open containers of `parse`. A strict one rejects vertical tabs and form feeds, and a
+/// repeated key with `DuplicateKey`, at the key's opening quote. An exact one rejects a number with
+/// `InexactNumber`, at the first digit by which it isn't exact. All else is as with `parse`.
 ///
 /// ```rust
 /// jzon::parse_as(alloc, text, &Reading::STRICT)
@@ -75,9 +75,9 @@ pub fn parse_as(alloc: Global, source: &str, reading: &Reading) -> Result<JsonVa
     }
 }
 
-/// Does what `parse_as` does; an error has its place in the text too. That of a repeated key is its
-/// opening quote, of a number with too many digits the first too many, and of two escapes that mean
-/// no character their last digit.
+/// Does what `parse_as` does; an error has its place too: of a repeated key the opening quote, of a
+/// container too many the first character in it, of too many digits the first too many, of two
+/// escapes that mean no character their last digit.
 pub fn parse_located(
     alloc: Global,
     source: &str,
@@ -110,9 +110,8 @@ fn read(alloc: Global, source: &str, reading: &Reading) -> stop::Result<JsonValu
     read_container(alloc, &cursor, kind)
 }
 
-/// Reads the rest of a text from its first token on, which is a primitive; `first` is its first
-/// byte. This and `read_container` are apart from `read`, so that a call clears only the locals
-/// that its text needs.
+/// Reads the rest of a text at its first token, a primitive whose first byte is `first`. Apart, so
+/// that a call clears only the locals that it needs.
 #[inline(never)]
 fn read_primitive(alloc: Global, cursor: &mut Cursor<'_>, first: u8) -> stop::Result<JsonValue>
     requires first { first ≡ next_byte cursor.old }
@@ -131,7 +130,7 @@ fn read_primitive(alloc: Global, cursor: &mut Cursor<'_>, first: u8) -> stop::Re
 }
 
 /// Reads the rest of a text after the opening bracket of the outermost container, which isn't
-/// empty.
+/// empty. Apart, so that a call clears only the locals that it needs.
 #[inline(never)]
 fn read_container(
     alloc: Global,
@@ -144,7 +143,7 @@ fn read_container(
 {
     let stacks = Stacks::new(alloc, cursor.reading.strict(), kind)?;
     let mut parser = Parser {
-        // Field by field, because a copy of the whole, behind a reference, is taken for a move.
+        // By fields, because the checker takes `*cursor` for a move, though `Cursor` is `Copy`.
         cursor: Cursor {
             source: cursor.source,
             index: cursor.index,
@@ -156,18 +155,18 @@ fn read_container(
     parser.read_to_end()
 }
 
-/// What was read of a value in a container.
+/// What `read_value` read.
 #[derive(Clone, Copy)]
 enum Next {
-    /// The value, and the comma after it.
+    /// A value, and the comma after it.
     Item,
     /// The opening bracket of a container that isn't empty.
     Opened(ContainerKind),
-    /// The value, and the closing bracket after it.
+    /// A value, and the closing bracket after it.
     End,
 }
 
-/// Returns the value of the text if the text ends at the cursor; else the stop is there.
+/// Returns the value of the text if the text ends at the cursor; else fails there.
 #[inline(always)]
 fn expect_end(cursor: &Cursor<'_>, value: JsonValue) -> stop::Result<JsonValue>
     ensures memory { result ≢ Err Stop.Memory }
@@ -191,7 +190,8 @@ struct Parser<'a> {
 }
 
 impl<'a> Parser<'a> {
-    /// Reads the rest of the text: all that the containers hold, and the end.
+    /// Reads the rest of the text, and returns its value: items, until a container opens or ends,
+    /// and so on.
     #[inline(always)]
     fn read_to_end(&mut self) -> stop::Result<JsonValue>
         requires before { IsBeforeItem self.old.cursor self.old.stacks }
@@ -208,7 +208,7 @@ impl<'a> Parser<'a> {
         }
     }
 
-    /// Returns the value of the text, whose outermost container ended, if the text ends there too.
+    /// Returns the value of the text, whose outermost container ended, if the text ends too.
     #[inline(never)]
     fn finish(&mut self) -> stop::Result<JsonValue>
         requires { IsAfterEnd self.old.cursor self.old.stacks true }
@@ -219,9 +219,8 @@ impl<'a> Parser<'a> {
         expect_end(&self.cursor, value)
     }
 
-    /// Reads elements or entries of the innermost container: to its end, or to a container in it
-    /// that isn't empty, of which it reads the opening bracket. Returns the kind of this container,
-    /// or `None` at the end.
+    /// Reads items of the innermost container, to its end (`None`), or past the opening bracket of
+    /// one in it that isn't empty, of this kind.
     #[inline(always)]
     fn read_items(&mut self) -> stop::Result<Option<ContainerKind>>
         requires before { IsBeforeItem self.old.cursor self.old.stacks }
@@ -230,7 +229,7 @@ impl<'a> Parser<'a> {
     {
         let container = self.stacks.innermost_kind();
         loop {
-            // One call of `read_value` for each kind: each is compiled with its closing bracket.
+            // A call for each kind, so that each is compiled with its closing bracket.
             let next = match container {
                 ContainerKind::Array => self.read_value(ContainerKind::Array)?,
                 ContainerKind::Object => {
@@ -246,8 +245,8 @@ impl<'a> Parser<'a> {
         }
     }
 
-    /// Reads the next key of the innermost container, and the colon. A repeated key of a strict
-    /// reading is rejected at its opening quote.
+    /// Reads the next key of the innermost container, and the colon. A strict reading rejects a
+    /// repeated key at its opening quote.
     #[inline(always)]
     fn read_key(&mut self) -> stop::Result<()>
         requires object { self.old.stacks.innermost.kind ≡ ContainerKind.Object }
@@ -271,9 +270,8 @@ impl<'a> Parser<'a> {
         self.cursor.pass_colon(spelled.end)
     }
 
-    /// Reads the next value of the innermost container, whose kind is `container`, and the comma or
-    /// the closing bracket after it. Of a container that isn't empty it reads only the opening
-    /// bracket.
+    /// Reads the next value of the innermost container, of the kind `container`, and the comma or
+    /// closing bracket after it; of a container that isn't empty, only the opening bracket.
     #[inline(always)]
     fn read_value(&mut self, container: ContainerKind) -> stop::Result<Next>
         requires kind { self.old.stacks.innermost.kind ≡ container }
@@ -311,9 +309,9 @@ impl<'a> Parser<'a> {
         Ok(Next::Item)
     }
 
-    /// Adds the innermost container, which ended, to the one around it, and reads what follows it;
-    /// repeats this as long as containers end. Returns whether the outermost one is reached, which
-    /// then has ended too; else a comma was read.
+    /// Adds the innermost container, which ended, to the one around it, and reads what follows, as
+    /// long as containers end. Returns `true` if the outermost one ended, which `finish` takes;
+    /// `false` after a comma.
     #[inline(always)]
     fn end_containers(&mut self) -> stop::Result<bool>
         requires even { HasAllValues self.old.stacks.innermost.kind self.old.stacks.innermost }

@@ -34,7 +34,7 @@ impl Place {
         Some(Place::at_boundary(text, offset))
     }
 
-    /// The same, where the offset is known to be that of a character or of the end.
+    /// The place at an offset known to be that of a character or of the end.
     pub(crate) fn at_boundary(text: &str, offset: usize) -> Place
         requires { IsCharBoundary text.now offset }
         ensures { result ≡ place_at text.now offset }
@@ -55,15 +55,15 @@ impl Place {
     }
 }
 
-/// The line after these characters. It counts the bytes of newlines: no other character has one,
-/// and no other byte is below 1 after `^ b'\n'`.
+/// The line, from 1, of the place after `prefix`. After `^ b'\n'` only a newline is below 1.
 fn line_after(prefix: &str) -> usize
     ensures { result ≡ line (chars prefix.now) }
 {
     count_below(prefix.as_bytes(), b'\n', 1) + 1
 }
 
-/// The characters after the last newline, and 1.
+/// The column, from 1, of the place after `prefix`: 1 more than the characters since the last
+/// newline.
 fn column_after(prefix: &str) -> usize
     ensures { result ≡ column (chars prefix.now) }
 {
@@ -82,7 +82,7 @@ fn characters(text: &str) -> usize
     count_below(text.as_bytes(), 127, 192)
 }
 
-/// How many bytes are below `bound` after `^ turn`.
+/// How many bytes are below `bound` after `^ turn`, `LANES` at once.
 fn count_below(bytes: &[u8], turn: u8, bound: u8) -> usize
     ensures count { result ≡ count_by (is_below turn bound) bytes.now }
     ensures within { result ≤ length bytes.now }
@@ -96,14 +96,14 @@ fn count_below(bytes: &[u8], turn: u8, bound: u8) -> usize
     count + count_by_bytes(&bytes[start..], turn, bound)
 }
 
-/// The same byte by byte, for the bytes after the last `LANES`.
+/// How many bytes are below `bound` after `^ turn`, byte by byte.
 fn count_by_bytes(bytes: &[u8], turn: u8, bound: u8) -> usize
     ensures { result ≡ count_by (is_below turn bound) bytes.now }
 {
     bytes.iter().filter(|byte| (**byte ^ turn) < bound).count()
 }
 
-/// The same of the `LANES` bytes at an offset.
+/// How many of the `LANES` bytes at `start` are below `bound` after `^ turn`.
 #[inline(always)]
 fn count_in_lanes(bytes: &[u8], start: usize, turn: u8, bound: u8) -> usize
     requires { start + LANES ≤ length bytes.now }

@@ -1,4 +1,5 @@
-//! Reads primitives: numbers, strings and literals (RFC 8259, section 3), into a `Target`.
+//! Reads primitives: numbers, strings and literals (RFC 8259, section 3), into a `Target`. Clauses
+//! compare with an automaton (docs/ARCHITECTURE.md).
 
 ghost use Rattle.std.specs.Prelude.{◌≡◌, ◌≢◌, ◌⊎◌, ◌<◌, ◌+◌, length, IsTrue, IfOk, Err, MatchResult, codes, slice_index, None, true, false, IsAscii, ⊤};
 ghost use Rattle.std.specs.Char.{is_ascii_digit};
@@ -19,9 +20,9 @@ use crate::target::Target;
 use jzon_tree::value::JsonValue;
 use std::alloc::Global;
 
-/// Puts the primitive at `start`, whose first byte is `first` (0 at the end of the text). Returns
-/// the offset after it. A string with escapes is unescaped in `buffer`, whose contents are
-/// unspecified afterwards.
+/// Puts the primitive at `start`, whose first byte is `first` (0 at the end of the text), into the
+/// target. Returns the offset after it; an error leaves the target as it was. If `exact`, a number
+/// must keep its value. In `buffer`, unspecified afterwards, strings are unescaped.
 #[inline(always)]
 pub(crate) fn put_primitive<T: Target>(
     exact: bool,
@@ -63,7 +64,8 @@ pub(crate) fn put_primitive<T: Target>(
     }
 }
 
-/// Puts the number that `read_number` reads. Returns the offset after it.
+/// Puts the number whose first digit is at `start`, after a minus if it is `negative`. Returns the
+/// offset after it. If `exact`, it must keep its value.
 #[inline(always)]
 fn put_magnitude<T: Target>(
     exact: bool,
@@ -87,8 +89,7 @@ fn put_magnitude<T: Target>(
 }
 
 /// Puts the literal whose first letter, `first`, is at `start`. Returns the offset after it. Its
-/// last four letters are compared at once, and there is no branch for each of the three literals,
-/// since processors can't predict which comes next.
+/// last four letters are compared at once: processors can't predict a branch for each literal.
 #[inline(always)]
 fn put_literal<T: Target>(source: &str, start: usize, first: u8, target: &mut T) -> Result<usize>
     requires within { start < length source.now }
@@ -106,13 +107,13 @@ fn put_literal<T: Target>(source: &str, start: usize, first: u8, target: &mut T)
         target.put(value);
         return Ok(letters_at + 4);
     }
-    // One of the letters is wrong, so this call fails: it finds which one.
+    // This call fails: what follows is never reached, and only spares a proof of that.
     let end = read_letters(source, letters_at, &letters)?;
     target.put(value);
     Ok(end)
 }
 
-/// The value of the literal with this first letter, and its last four letters.
+/// The value of the literal with this first letter (n, t or f), and its last four letters.
 #[inline(always)]
 fn literal(first: u8) -> (JsonValue, [u8; 4])
     ensures ascii { IsAscii result.1 }
@@ -127,8 +128,8 @@ fn literal(first: u8) -> (JsonValue, [u8; 4])
     }
 }
 
-/// The offset after these letters, the last of a literal, compared one by one, so that the error is
-/// at the first wrong one. `past_letter` is the automaton's state before them.
+/// The offset after these last letters of a literal, of which one is wrong or missing: compared one
+/// by one, so that the error is there. `past_letter` is the automaton's state before them.
 #[cold]
 #[inline(never)]
 fn read_letters(source: &str, start: usize, letters: &[u8]) -> Result<usize>

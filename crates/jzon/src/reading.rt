@@ -1,4 +1,4 @@
-//! How texts are read (docs/RULES.md, "Readings").
+//! The settings of a parser (docs/RULES.md, "Readings").
 
 ghost use Rattle.std.specs.Prelude.{◌≡◌, ◌<◌, ◌≤◌, ◌↔◌, IsTrue, true, false, SomeIff};
 ghost use Rattle.jzon_tree.specs.View.{view};
@@ -7,9 +7,10 @@ ghost use Rattle.jzon.specs.Answer.{IsReadable};
 use jzon_tree::value::{JsonValue, is_readable};
 use std::marker::Model;
 
-/// How `parse_as` reads a text: whether strictly, how many containers that aren't empty may be open
-/// at once, and whether numbers must be exact. A strict reading accepts only the whitespace of
-/// RFC 8259, and rejects a repeated key.
+/// The settings of `parse_as`. A *strict* reading accepts only the whitespace of RFC 8259 and
+/// rejects a repeated key. The *depth* is how many arrays and objects that aren't empty may be open
+/// at once. An *exact* reading rejects a number that would be read with another value than its
+/// digits and exponent spell.
 #[derive(Clone, Copy, Debug)]
 pub struct Reading {
     strict: bool,
@@ -31,7 +32,6 @@ impl Model for Reading {
     ghost inverse = { fields_of };
 }
 
-/// The greatest depth of a reading.
 const MAX_DEPTH: u16 = 512;
 
 impl Reading {
@@ -49,16 +49,16 @@ impl Reading {
         exact: false,
     };
 
-    /// The strict reading of depth 512 that is exact: it rejects a text of which the value would lose
-    /// a repeated key or a digit.
+    /// The strict and exact reading of depth 512: it rejects a text whose value would lose a
+    /// repeated key or a digit.
     pub const LOSSLESS: Reading = Reading {
         strict: true,
         depth: MAX_DEPTH,
         exact: true,
     };
 
-    /// The reading with these settings, not exact; `None` if `depth` is above 512. At depth 0 a text
-    /// may be a primitive or an empty container.
+    /// The reading with these settings, not exact; `None` if `depth` is above 512. At depth 0 a
+    /// text may be a primitive or an empty container.
     pub fn new(strict: bool, depth: u16) -> Option<Reading>
         ensures { SomeIff result (depth ≤ 512) (record { strict = strict; depth = depth; exact = false }) }
     {
@@ -72,7 +72,7 @@ impl Reading {
         })
     }
 
-    /// This reading with another depth, 512 if `depth` is above it. A shallow lossless reading is
+    /// This reading with another depth; one above 512 becomes 512. A shallow lossless reading is
     /// `Reading::LOSSLESS.with_depth(16)`.
     pub fn with_depth(self, depth: u16) -> Reading
         ensures within { depth ≤ 512 → result ≡ record self { depth = depth } }
@@ -97,8 +97,7 @@ impl Reading {
         }
     }
 
-    /// This reading, but it rejects a number that would be read with another value than its digits
-    /// and exponent spell.
+    /// This reading, but exact.
     pub fn with_exact_numbers(self) -> Reading
         ensures { result ≡ record self { exact = true } }
     {
@@ -108,7 +107,7 @@ impl Reading {
         }
     }
 
-    /// Whether numbers must be exact, as `with_exact_numbers` says.
+    /// Whether the reading is exact.
     pub fn exact_numbers(&self) -> bool
         ensures { result ≡ self.now.exact }
     {
@@ -122,7 +121,7 @@ impl Reading {
         self.strict
     }
 
-    /// How many containers that aren't empty may be open at once, at most 512.
+    /// How many containers that aren't empty may be open at once.
     pub fn depth(&self) -> u16
         ensures depth { result ≡ self.now.depth }
         ensures most { result ≤ 512 }
@@ -133,7 +132,7 @@ impl Reading {
     /// Whether the value contains no NaN and nests no deeper than this reading allows. If so, this
     /// reading reads its compact and pretty texts as values equal to it (`laws::reads_back`).
     ///
-    /// Ends at a NaN or a container that is too deep. Allocates nothing.
+    /// Stops at the first NaN or container that is too deep. Allocates nothing.
     pub fn admits(&self, value: &JsonValue) -> bool
         ensures { IsTrue result ↔ IsReadable self.now (view value.now) }
     {

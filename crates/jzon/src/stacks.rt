@@ -1,7 +1,10 @@
-//! The open containers of a text. All their keys are on one stack, and all their values on another;
-//! each container has a part of both, and is made of it at its end. To clauses they are a list of
-//! containers (`specs/Private/OpenContainers.antt`). By `HasAllValues` each key of an object has
-//! its value, and by `AwaitsValue` only the last one has none.
+//! The arrays and objects of a text whose end isn't read yet. All their keys are on one stack, and
+//! all their values on another; each container has a part of both, and is made of it at its end. In
+//! clauses they are a list: by `HasAllValues` each key of an object has its value, by `AwaitsValue`
+//! only the last one has none. A strict reading finds repeated keys by a `KnownKeys` of each
+//! container; what only it needs is cold and apart.
+//!
+//! After an error the stacks are unspecified, unless a method says otherwise.
 
 ghost use Rattle.std.specs.Prelude.{◌≡◌, ◌≢◌, ◌&&◌, if◌then◌else◌, slice_index, IfSome, None, Some, ◌≤◌, ◌<◌, [], ◌∷◌, ◌++◌, length, take, drop, vec_len, vec_capacity, IfOk, OnOk, OnErr, MatchOption, true, ◌+◌};
 ghost use Rattle.std.specs.List.{zip};
@@ -28,20 +31,16 @@ use std::alloc::{AllocError, Global};
 use std::marker::Model;
 use std::mem;
 
-/// How many values there is room for at first, and how many keys if the outermost container is an
-/// object.
+/// The first capacity for values, and for keys if the outermost container is an object.
 const FIRST_ROOM: usize = 8;
 
-/// How many values there is room for when the first room is full: as many as fit in the largest
-/// block that glibc keeps at hand after it is freed.
+/// The second capacity for values: as many as fit in the largest block that glibc keeps for reuse.
 const SECOND_ROOM: usize = 21;
 
-/// Up to this many values of a nested container are always copied to a block of their own
-/// (`cut_values`), and up to this many of the outermost one keep a block with an unused part
-/// (`take_all`).
+/// Above this many values, `cut_values` and `take_all` save copies and unused capacity.
 const LONG: usize = 1024;
 
-/// An open container: its kind, and where its keys and values begin.
+/// An open container: its kind, and where its keys and values begin on the stacks.
 #[derive(Clone, Copy)]
 struct Frame {
     kind: ContainerKind,
@@ -57,10 +56,9 @@ pub(crate) struct Stacks {
     innermost: Frame,
     /// The containers around the innermost one, the outermost first.
     around: Vec<Frame>,
-    /// What is known of the keys of the innermost container, in a strict reading, which rejects a
-    /// repeated key; `None` if the reading isn't strict.
+    /// What is known of the keys of `innermost`; `None` if the reading isn't strict.
     known: Option<KnownKeys>,
-    /// In a strict reading: the keys of each container around, the outermost first.
+    /// As `known`, of each container in `around`; empty if the reading isn't strict.
     known_around: Vec<KnownKeys>,
 }
 
@@ -93,8 +91,8 @@ fn reserve_value(alloc: Global, values: &mut Vec<JsonValue>) -> Result<(), Alloc
     grow(alloc, values)
 }
 
-/// Makes room for more values. The second block is a new one: glibc has one at hand more often than
-/// it can enlarge the first.
+/// Makes room in a full stack of `FIRST_ROOM` by a new block, since glibc can reuse one more often
+/// than enlarge that; in a larger one as a `Vec` does.
 #[cold]
 #[inline(never)]
 fn grow(alloc: Global, values: &mut Vec<JsonValue>) -> Result<(), AllocError>
@@ -110,10 +108,10 @@ fn grow(alloc: Global, values: &mut Vec<JsonValue>) -> Result<(), AllocError>
     Ok(())
 }
 
-/// Removes the values of a nested container, which begin at `start`, and returns them, mostly in a
-/// block of their exact size. But many values keep the stack's block, if only few are before them
-/// and most of the block is used: the few are moved, because a copy of many touches new pages.
-/// After an error the values may be in another order.
+/// Removes and returns the values from `start` on, of a nested container, mostly in a block of
+/// their exact size. More than `LONG` keep the stack's block if they use at least half of it and at
+/// most an eighth as many are before them: those are moved, because a copy of many touches new
+/// pages. After an error their order may differ.
 #[inline(always)]
 fn cut_values(stack: &mut Vec<JsonValue>, start: usize) -> Result<Vec<JsonValue>, AllocError>
     requires { start ≤ vec_len stack.old }
@@ -123,7 +121,7 @@ fn cut_values(stack: &mut Vec<JsonValue>, start: usize) -> Result<Vec<JsonValue>
 {
     let count = stack.len() - start;
     if LONG < count && start <= count / 8 && stack.capacity() / 2 <= count {
-        // Moves the values from `start` on to the front: they keep the block.
+        // So the values from `start` on keep the block.
         stack.as_mut_slice().rotate_left(start);
         let front = stack.split_off(count)?;
         return Ok(mem::replace(stack, front));
@@ -131,9 +129,9 @@ fn cut_values(stack: &mut Vec<JsonValue>, start: usize) -> Result<Vec<JsonValue>
     stack.split_off(start)
 }
 
-/// Takes all that is on the stack, for the outermost container: in the stack's own block, unless it
-/// has outgrown the first room and more than half of it is unused. Of many the unused part of the
-/// block is given back; if the allocator refuses that, the block stays as it is.
+/// Takes all that is on the stack, for the outermost container: in the stack's block, unless this
+/// has outgrown `FIRST_ROOM` and is less than half used; then in one of the exact size. Above
+/// `LONG` items the unused part of a kept block is given back, if the allocator can.
 #[inline(always)]
 fn take_all<T>(alloc: Global, stack: &mut Vec<T>) -> Result<Vec<T>, AllocError>
     ensures items { OnOk result (stack.new.items ≡ []) }
@@ -149,8 +147,8 @@ fn take_all<T>(alloc: Global, stack: &mut Vec<T>) -> Result<Vec<T>, AllocError>
     stack.split_off(0)
 }
 
-/// In a strict reading: puts what is known of the keys of the innermost container on the stack
-/// `around`, and begins anew, with no keys, for a container that is opened in it.
+/// Moves the `KnownKeys` of the innermost container to `around`, and begins with no keys for one
+/// that is opened in it. An error changes neither.
 #[cold]
 #[inline(never)]
 fn open_known(known: &mut Option<KnownKeys>, around: &mut Vec<KnownKeys>) -> Result<(), AllocError>
@@ -168,8 +166,7 @@ fn open_known(known: &mut Option<KnownKeys>, around: &mut Vec<KnownKeys>) -> Res
     Ok(())
 }
 
-/// In a strict reading: takes back what is known of the keys of the container around one that
-/// ended.
+/// When a container ended: takes back the `KnownKeys` of the one around it.
 #[cold]
 #[inline(never)]
 fn close_known(known: &mut Option<KnownKeys>, around: &mut Vec<KnownKeys>)
@@ -179,8 +176,8 @@ fn close_known(known: &mut Option<KnownKeys>, around: &mut Vec<KnownKeys>)
     *known = around.pop();
 }
 
-/// In a strict reading: the object of these keys, which are distinct, and as many values. `known`
-/// is left as that of no keys, because the innermost container then has none.
+/// The object of these distinct keys and as many values, with the index that `known` may have.
+/// `known` becomes that of no keys, as the innermost container then has none.
 #[cold]
 #[inline(never)]
 fn object_of_known(
@@ -203,7 +200,7 @@ fn object_of_known(
 }
 
 impl Stacks {
-    /// One open container, which is empty.
+    /// The stacks of the outermost container, which is empty so far.
     pub(crate) fn new(
         alloc: Global,
         strict: bool,
@@ -245,7 +242,7 @@ impl Stacks {
         self.around.len() + 1
     }
 
-    /// Adds an empty container, as a value.
+    /// Adds an empty container to the innermost one.
     #[inline(always)]
     pub(crate) fn push_empty(&mut self, kind: ContainerKind) -> Result<(), AllocError>
         ensures ok { OnOk result ((v : JsonValue) × (view v ≡ empty_container kind)
@@ -256,8 +253,9 @@ impl Stacks {
         Ok(())
     }
 
-    /// Adds the primitive at `start`, as `put_primitive` does. At `Err` the stacks are as they
-    /// were.
+    /// Adds the primitive at offset `start`, whose first byte is `first` (0 at the end of the
+    /// text), to the innermost container. Returns the offset after it; an error adds nothing. If
+    /// `exact`, a number must keep its value. In `buffer` strings are unescaped.
     #[inline(always)]
     pub(crate) fn push_primitive(
         &mut self,
@@ -287,9 +285,8 @@ impl Stacks {
         )
     }
 
-    /// Adds a key to the innermost container, which is an object. Returns whether the key is
-    /// rejected instead: a strict reading rejects one that the object has. `wide` begins with
-    /// `name` (`Spelled::text`). After an error the stacks are unspecified.
+    /// Adds a key to the innermost container, an object. If this has the key, a strict reading
+    /// returns `true` instead. `wide` begins with `name`, for a faster copy.
     #[inline(always)]
     pub(crate) fn push_key(&mut self, name: &str, wide: &str) -> Result<bool, AllocError>
         requires object { self.old.innermost.kind ≡ ContainerKind.Object }
@@ -307,7 +304,7 @@ impl Stacks {
         Ok(false)
     }
 
-    /// `push_key` in a strict reading.
+    /// Adds a key to the innermost container, an object, or returns `true` if it has the key.
     #[cold]
     #[inline(never)]
     fn push_new_key(&mut self, name: &str, wide: &str) -> Result<bool, AllocError>
@@ -328,14 +325,14 @@ impl Stacks {
             return Ok(true);
         }
         if let Err(error) = Key::push_wide(&mut self.keys, self.alloc, name, wide) {
-            // The name is known, but its key isn't there: `known` would break the invariant.
+            // `known` has the name, but the key isn't there, against the invariant.
             self.known = None;
             return Err(error);
         }
         Ok(false)
     }
 
-    /// Opens a container in the innermost one, whose next value it is.
+    /// Opens a container in the innermost one, as its next value.
     #[inline(always)]
     pub(crate) fn open(&mut self, kind: ContainerKind) -> Result<(), AllocError>
         requires { AwaitsValue self.old.innermost.kind self.old.innermost }
@@ -345,7 +342,7 @@ impl Stacks {
         if self.known.is_some() {
             open_known(&mut self.known, &mut self.known_around)?;
         }
-        // Copied field by field, because a copy of the whole frame moves its padding in pieces.
+        // By fields, because a copy of the whole moves its padding in pieces.
         self.around.push_reserved(Frame { ..self.innermost });
         self.innermost.kind = kind;
         self.innermost.first_key = self.keys.len();
@@ -353,8 +350,8 @@ impl Stacks {
         Ok(())
     }
 
-    /// Removes the elements of the innermost container, which is a nested array that ended, and
-    /// returns them. A single one is moved without the call that many take.
+    /// Removes the innermost container, a nested array that ended, and returns its elements. A
+    /// single one is moved without the call that many take.
     #[inline(always)]
     fn end_array(&mut self) -> Result<Vec<JsonValue>, AllocError>
         requires { self.old.innermost.keys ≡ [] }
@@ -372,8 +369,7 @@ impl Stacks {
         cut_values(&mut self.values, start)
     }
 
-    /// Removes the entries of the innermost container, which is a nested object that ended, and
-    /// returns this object.
+    /// Removes the innermost container, a nested object that ended, and returns it.
     #[inline(always)]
     fn end_object(&mut self) -> Result<Object, AllocError>
         requires object { self.old.innermost.kind ≡ ContainerKind.Object }
@@ -394,8 +390,8 @@ impl Stacks {
         Object::from_entries(self.alloc, keys, values)
     }
 
-    /// Adds this value of the innermost container, which ended and has nothing left, to the one
-    /// around it. After an error the stacks are unspecified.
+    /// Goes back to the container around the innermost one, which has nothing left on the stacks,
+    /// and adds `value`, made of it.
     #[inline(always)]
     fn close_with(&mut self, value: JsonValue) -> Result<(), AllocError>
         requires ended { self.old.innermost ≡ new_container self.old.innermost.kind }
@@ -414,8 +410,7 @@ impl Stacks {
         Ok(())
     }
 
-    /// Ends the innermost container, which is a nested one and has a value for each key, and adds
-    /// it to the one around it. After an error the stacks are unspecified.
+    /// Ends the innermost container, a nested one, and adds it to the one around it.
     #[inline(always)]
     pub(crate) fn close(&mut self) -> Result<(), AllocError>
         requires even { HasAllValues self.old.innermost.kind self.old.innermost }
@@ -434,8 +429,8 @@ impl Stacks {
         }
     }
 
-    /// Takes the elements of the outermost container, which is an array that ended. A single one
-    /// gets a block of one, where `take_all` would leave it the block of `FIRST_ROOM`.
+    /// The elements of the outermost container, an array that ended. A single one gets a block of
+    /// one, where `take_all` would leave it `FIRST_ROOM`.
     #[inline(always)]
     fn finish_array(&mut self) -> Result<Vec<JsonValue>, AllocError>
         requires { self.old.around ≡ [] }
@@ -447,7 +442,7 @@ impl Stacks {
         take_all(self.alloc, &mut self.values)
     }
 
-    /// Takes the entries of the outermost container, which is an object that ended.
+    /// The outermost container, an object that ended.
     #[inline(always)]
     fn finish_object(&mut self) -> Result<Object, AllocError>
         requires object { self.old.innermost.kind ≡ ContainerKind.Object }

@@ -1,5 +1,5 @@
 //! Why the parser stops before the end of a text, and the error that is returned for it
-//! (docs/RULES.md, "Which error is reported").
+//! (docs/RULES.md, "Which error is reported"). Offsets are in bytes.
 
 ghost use Rattle.std.specs.Prelude.{◌≡◌, ◌≢◌, SomeIff, drop, chars};
 ghost use Rattle.std.specs.Str.{IsCharBoundary};
@@ -12,30 +12,28 @@ use crate::place::Place;
 use jzon_base::error::Error;
 use std::alloc::AllocError;
 
-/// Why the parser stops. An `Error` is made of it at the end, because a result that may hold one
-/// has 40 bytes or more, which are cleared each time.
+/// An `Error` is made of it only at the end, because a result that may hold one has 40 bytes or
+/// more, which each call would clear.
 #[derive(Clone, Copy)]
 pub(crate) enum Stop {
     /// An allocation failed.
     Memory,
-    /// The text has more open containers, or a number more digits, than is allowed: the first
-    /// character too many is at this offset.
+    /// A container too many is open, in which the first character but whitespace is at this offset;
+    /// or the digit there is one too many.
     Limit(usize),
-    /// Two escapes of surrogates mean no character together: the last digit of the second one is
-    /// at this offset.
+    /// Two `\u` escapes aren't a high and a low surrogate; the last digit of the second is at this
+    /// offset.
     Surrogates(usize),
-    /// The text has no valid continuation at this offset.
+    /// The text has no valid continuation at this offset: a wrong character is there, or the end.
     At(usize),
-    /// The key whose opening quote is at this offset was there before.
+    /// The key whose opening quote is at this offset repeats one of its object.
     Duplicate(usize),
-    /// An exact reading can't keep a number from the digit at this offset on.
+    /// An exact reading would lose the digit at this offset, or clamp the exponent there.
     Inexact(usize),
 }
 
-/// The result of a function of the parser.
 pub(crate) type Result<T> = std::result::Result<T, Stop>;
 
-/// So that `?` after a call of std returns it.
 impl From<AllocError> for Stop {
     ghost use Rattle.jzon.specs.declared.stop.Stop.TheVariants.{Memory};
 
@@ -47,7 +45,7 @@ impl From<AllocError> for Stop {
 }
 
 impl Stop {
-    /// The error that is returned for it.
+    /// The error that is returned for this stop in `source`.
     #[cold]
     #[inline(never)]
     pub(crate) fn error(self, source: &str) -> Error
@@ -57,7 +55,7 @@ impl Stop {
         self.located(source).error
     }
 
-    /// The error that is returned for it, and its place.
+    /// The error, and its place, which is counted only here; a failed allocation has none.
     #[inline(always)]
     pub(crate) fn located(self, source: &str) -> LocatedError
         requires { IsAtBoundary source.now self }
@@ -89,7 +87,7 @@ impl Stop {
         }
     }
 
-    /// Its offset in the text, unless an allocation failed.
+    /// `None` if an allocation failed.
     #[inline(always)]
     fn offset(self) -> Option<usize>
         ensures { SomeIff result (self ≢ Memory) (stop_offset self) }
@@ -105,8 +103,7 @@ impl Stop {
     }
 }
 
-/// The stop for a text that has no valid continuation at `index`. The text is there only for the
-/// clause.
+/// The stop for a text that has no valid continuation at `index`. Only the clause needs `source`.
 #[inline(always)]
 pub(crate) fn fault_at(source: &str, index: usize) -> Stop
     requires { IsCharBoundary source.now index }
@@ -115,7 +112,7 @@ pub(crate) fn fault_at(source: &str, index: usize) -> Stop
     Stop::At(index)
 }
 
-/// The stop for one open container too many.
+/// The stop for a container too many, in which the first character but whitespace is at `index`.
 #[cold]
 #[inline(never)]
 pub(crate) fn too_deep(index: usize) -> Stop

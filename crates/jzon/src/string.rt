@@ -1,6 +1,7 @@
 //! Reads strings (RFC 8259, section 7; docs/RULES.md, "Strings"). A string without escapes isn't
-//! copied; one with escapes is unescaped into a buffer. In clauses a string's `Role` is that of a
-//! key or a value, and `between` is the automaton's state between two characters.
+//! copied; one with escapes is unescaped into a buffer. The automaton of the clauses
+//! (docs/ARCHITECTURE.md) reads one in the `Role` of a key or a value, and is `between` its
+//! characters.
 
 ghost use Rattle.std.specs.Prelude.{◌≡◌, ◌<◌, ◌≤◌, ◌+◌, ◌-◌, ◌++◌, ◌&&◌, ◌⊎◌, ◌↔◌, Contains, ℕ, List, [], length, take, IsTrue, IfOk, IsOk, IsOkUnless, SomeIff, MatchResult, OnOk, OnErr, slice_index, slice_range, string_bytes, if◌then◌else◌, false};
 ghost use Rattle.std.specs.Str.{IsCharBoundary};
@@ -24,20 +25,19 @@ use jzon_base::util::plain::plain_len;
 use jzon_tree::value::JsonValue;
 use std::alloc::Global;
 
-/// A string that was read: where its contents are, and where it ends.
+/// A string that was read.
 #[derive(Clone, Copy)]
 pub(crate) struct Spelled {
     /// The offset after the closing quote.
     pub(crate) end: usize,
-    /// Whether the contents are in the buffer, unescaped. Else they are in the source, up to the
+    /// Whether the contents are in the buffer, unescaped; else they are in the source, up to the
     /// closing quote.
     pub(crate) is_escaped: bool,
 }
 
 impl Spelled {
-    /// The contents of the string whose opening quote is before `start`, and a string that begins
-    /// with them, by which a short one is copied faster: all of the source from there on, or of the
-    /// buffer.
+    /// The contents of the string whose opening quote is before `start`, and what begins with them
+    /// (the rest of the source, or the buffer), of which a fixed number of bytes is copied faster.
     pub(crate) fn text<'a>(
         self,
         source: &'a str,
@@ -59,9 +59,8 @@ impl Spelled {
     }
 }
 
-/// Puts the string `content` into the target. Up to `short::MAX_LEN` bytes are stored inline, which
-/// never fails, and more are allocated. `wide` begins with `content`. After an error the target is
-/// as it was.
+/// Puts the string `content` into the target: up to `MAX_LEN` bytes (30) inline, which never fails;
+/// more in an allocation. Of `wide`, which begins with it, 30 bytes are copied faster.
 #[inline(always)]
 pub(crate) fn put_string_value<T: Target>(
     alloc: Global,
@@ -78,7 +77,7 @@ pub(crate) fn put_string_value<T: Target>(
     ensures in_place { length content.now ≤ MAX_LEN → IsOk result }
 {
     if content.len() <= MAX_LEN {
-        // A value made in one of two ways, and put after them, would be copied once more.
+        // A `put` in each branch: one after both would copy the value once more.
         if wide.is_char_boundary(MAX_LEN) {
             target.put(JsonValue::Short(Short::from_wide(content, wide)));
         } else {
@@ -90,8 +89,8 @@ pub(crate) fn put_string_value<T: Target>(
     Ok(())
 }
 
-/// Reads the string whose opening quote is before `start`. A string without escapes leaves the
-/// buffer as it was. After an error the buffer is unspecified.
+/// Reads the string whose opening quote is before `start`. Without escapes it leaves the buffer as
+/// it was; after an error the buffer is unspecified.
 #[inline(always)]
 pub(crate) fn read_string(source: &str, start: usize, buffer: &mut String) -> Result<Spelled>
     requires { IsCharBoundary source.now start }
@@ -141,8 +140,8 @@ fn plain_end(source: &str, start: usize) -> usize
     start + plain_len(&source.as_bytes()[start..])
 }
 
-/// The offset after the closing quote, if one is at `index`, where the unescaped characters end and
-/// there is no backslash.
+/// The offset after the closing quote at `index`. Fails if a control character or the text's end is
+/// there instead.
 fn past_quote(source: &str, index: usize) -> Result<usize>
     requires boundary { IsCharBoundary source.now index }
     requires stop { index < length source.now → is_plain (slice_index source.now index) ≡ false }
@@ -160,8 +159,8 @@ fn past_quote(source: &str, index: usize) -> Result<usize>
     }
 }
 
-/// Adds the rest of the string, which begins with a backslash at `start`, to the buffer, unescaped;
-/// returns the offset after the closing quote.
+/// Adds the rest of the string, from the backslash at `start` on, to the buffer, unescaped; returns
+/// the offset after the closing quote.
 #[inline(never)]
 fn read_escapes(source: &str, start: usize, buffer: &mut String) -> Result<usize>
     requires boundary { IsCharBoundary source.now start }
@@ -178,7 +177,6 @@ fn read_escapes(source: &str, start: usize, buffer: &mut String) -> Result<usize
         let (ch, end) = read_escape(source, index + 1)?;
         buffer.push(ch)?;
         index = end;
-        // Escapes often follow one another.
         if !has_byte(source, end, b'\\') {
             index = plain_end(source, end);
             buffer.push_str(&source[end..index])?;
@@ -187,8 +185,8 @@ fn read_escapes(source: &str, start: usize, buffer: &mut String) -> Result<usize
     past_quote(source, index)
 }
 
-/// The character of the escape whose backslash is before `start`, and the offset after it. If it is
-/// a `\u` escape of a surrogate, a second escape belongs to it.
+/// The character of the escape whose backslash is before `start`, and the offset after it. To a
+/// `\u` escape of a surrogate a second escape belongs.
 fn read_escape(source: &str, start: usize) -> Result<(char, usize)>
     requires { IsCharBoundary source.now start }
     ensures end { IfOk result (λ r. (start < r.1) × IsCharBoundary source.now r.1) }
@@ -210,7 +208,7 @@ fn read_escape(source: &str, start: usize) -> Result<(char, usize)>
 }
 
 /// The character of the surrogate `first` and of the one whose escape must follow at `start`, and
-/// the offset after both. Fails with `Surrogates` if the two aren't a high and a low surrogate.
+/// the offset after both. Fails with `Stop::Surrogates`, at the last digit, if they are no pair.
 fn read_second(source: &str, start: usize, first: u32) -> Result<(char, usize)>
     requires { IsCharBoundary source.now start }
     ensures end { IfOk result (λ r. (start < r.1) × IsCharBoundary source.now r.1) }
@@ -223,7 +221,6 @@ fn read_second(source: &str, start: usize, first: u32) -> Result<(char, usize)>
         return Err(fault_at(source, start + 1));
     }
     let unit = read_hex(source, start + 2)?;
-    // This escape has six bytes, and the error of a wrong pair is at the last one.
     match paired_char(first, unit) {
         Some(ch) => Ok((ch, start + 6)),
         None => Err(Stop::Surrogates(start + 5)),
@@ -242,9 +239,7 @@ fn paired_char(high: u32, low: u32) -> Option<char>
 }
 
 /// The code unit that the four hexadecimal digits at `start`, of either case, spell. The clauses
-/// `first` and `second` say what the automaton makes of them in the first escape of a string's
-/// character, and in the second of a surrogate pair; `last` is for the error of a pair, which is at
-/// the last digit.
+/// `first` and `second` are for the escapes of a character, `last` for the error of a wrong pair.
 fn read_hex(source: &str, start: usize) -> Result<u32>
     requires { IsCharBoundary source.now start }
     ensures value { IfOk result (λ u. u ≡ code_unit (slice_range source.now start (start + 4))) }
@@ -263,8 +258,8 @@ fn read_hex(source: &str, start: usize) -> Result<u32>
     read_hex_by_digits(source, start)
 }
 
-/// `read_hex`, digit by digit, so that the error is at the first byte that is no digit, or at the
-/// end of the text, where `byte_at` returns 0.
+/// The code unit of four hexadecimal digits, of which one is wrong or missing: read one by one, so
+/// that the error is at that byte or the end.
 #[cold]
 #[inline(never)]
 fn read_hex_by_digits(source: &str, start: usize) -> Result<u32>

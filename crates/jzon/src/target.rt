@@ -5,22 +5,19 @@ ghost use Rattle.jzon_tree.specs.declared.value.JsonValue.{JsonValue};
 
 use jzon_tree::value::JsonValue;
 
-/// What takes a value that is read. What reads a value puts it there, because a value that is
-/// returned is moved from call to call.
+/// What takes a value that is read, because a returned one would be moved from call to call.
 pub(crate) trait Target {
-    // The target can take a value.
     ghost has_room: { Self → Type 0 };
 
     // The target before, a value, and the target with this value.
     ghost takes: { Self → JsonValue → Self → Type 0 };
 
-    /// Puts the value into the target.
     fn put(&mut self, value: JsonValue)
         requires { has_room self.old }
         ensures { takes self.old value self.new };
 }
 
-/// A vector takes the value after its others, and doesn't allocate.
+/// The value becomes the last one, in capacity that the caller reserved.
 impl Target for Vec<JsonValue> {
     ghost has_room = { λ values. vec_len values < vec_capacity values };
 
@@ -32,7 +29,7 @@ impl Target for Vec<JsonValue> {
     }
 }
 
-/// A `JsonValue` is replaced by the value.
+/// The value, that of a whole text, replaces the one that was there.
 impl Target for JsonValue {
     ghost has_room = { λ _. ⊤ };
 

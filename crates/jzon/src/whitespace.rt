@@ -1,4 +1,5 @@
-//! Whitespace (RFC 8259, section 2; docs/RULES.md, "Texts").
+//! Skips whitespace (RFC 8259, section 2; docs/RULES.md, "Texts"). No byte above the space (32) is
+//! whitespace.
 
 ghost use Rattle.std.specs.Prelude.{◌≡◌, IsTrue, ◌<◌, ◌≤◌, ◌+◌, drop, length, true, false, slice_index};
 ghost use Rattle.std.specs.Int.{w64, trailing_zeros};
@@ -11,12 +12,12 @@ use crate::bytes_at::has_byte;
 use crate::reading::Reading;
 use std::simd::prelude::*;
 
-/// How many bytes are compared at once.
+/// How many bytes one SIMD comparison tests.
 const LANES: usize = 16;
 
 /// The offset after the whitespace at `start`. Most often there is none, or one space, so these are
-/// tested first. By `outcome` the rest of the text means the same to the parser's automaton
-/// (docs/ARCHITECTURE.md), in each state that allows whitespace.
+/// tested first. By `outcome` the automaton of the proofs (docs/ARCHITECTURE.md) may skip it too,
+/// in each state that allows whitespace.
 #[inline(always)]
 pub(crate) fn skip_whitespace(source: &str, reading: Reading, start: usize) -> usize
     requires { IsCharBoundary source.now start }
@@ -36,7 +37,6 @@ pub(crate) fn skip_whitespace(source: &str, reading: Reading, start: usize) -> u
     start + whitespace_length(&source.as_bytes()[start..], reading.strict())
 }
 
-/// Whether the byte at `index` is above the space. No such byte is whitespace.
 #[inline(always)]
 fn is_above_space(source: &str, index: usize) -> bool
     ensures within { IsTrue result → index < length source.now }
@@ -47,8 +47,8 @@ fn is_above_space(source: &str, index: usize) -> bool
     index < bytes.len() && bytes[index] > b' '
 }
 
-/// How many bytes at the start are whitespace. Most whitespace is a newline and the indentation
-/// after it, so newlines and spaces are looked for first, apart from the loop.
+/// How many bytes at the start are whitespace. Most is a newline and indentation, so the first
+/// `LANES` bytes are tested for these alone; `rest_length` counts any.
 #[inline(never)]
 fn whitespace_length(bytes: &[u8], strict: bool) -> usize
     ensures { result ≡ prefix_len (is_whitespace strict) bytes.now }
@@ -67,8 +67,8 @@ fn whitespace_length(bytes: &[u8], strict: bool) -> usize
     rest_length(bytes, strict)
 }
 
-/// Which of the first `LANES` bytes are other bytes than newlines and spaces, as `others_in_lanes`
-/// says it.
+/// Which of the first `LANES` bytes are neither newline nor space: a bit for each, the first byte's
+/// lowest.
 #[inline(always)]
 fn unusual_in_lanes(bytes: &[u8]) -> u64
     requires { LANES ≤ length bytes.now }
@@ -79,11 +79,10 @@ fn unusual_in_lanes(bytes: &[u8]) -> u64
 {
     let lanes = Simd::<u8, 16>::from_slice(bytes);
     let usual = lanes.simd_eq(Simd::splat(b' ')) | lanes.simd_eq(Simd::splat(b'\n'));
-    // The complement: a bit for each of the 16 bytes.
     0xFFFF - usual.to_bitmask()
 }
 
-/// `whitespace_length` of whitespace of any kind, `LANES` bytes at once.
+/// How many bytes at the start are whitespace, `LANES` at once.
 #[inline(never)]
 fn rest_length(bytes: &[u8], strict: bool) -> usize
     ensures { result ≡ prefix_len (is_whitespace strict) bytes.now }
@@ -96,7 +95,7 @@ fn rest_length(bytes: &[u8], strict: bool) -> usize
             if bytes[end] > b' ' {
                 return end;
             }
-            // Maybe a vertical tab or a form feed, which isn't whitespace in a strict reading.
+            // Maybe a vertical tab or a form feed.
             return end + whitespace_by_bytes(&bytes[end..], strict);
         }
         len += LANES;
@@ -104,8 +103,8 @@ fn rest_length(bytes: &[u8], strict: bool) -> usize
     len + whitespace_by_bytes(&bytes[len..], strict)
 }
 
-/// Which of the `LANES` bytes at `start` are other bytes than tabs, newlines, carriage returns and
-/// spaces (`is_whitespace true`), a bit for each, the first byte's lowest.
+/// Which of the `LANES` bytes at `start` aren't whitespace of RFC 8259 (`is_whitespace true`): a
+/// bit for each, the first byte's lowest.
 #[inline(always)]
 fn others_in_lanes(bytes: &[u8], start: usize) -> u64
     requires { start + LANES ≤ length bytes.now }
@@ -120,7 +119,7 @@ fn others_in_lanes(bytes: &[u8], start: usize) -> u64
     0xFFFF - (blanks | line_ends).to_bitmask()
 }
 
-/// `whitespace_length`, byte by byte.
+/// How many bytes at the start are whitespace, byte by byte.
 #[inline(always)]
 fn whitespace_by_bytes(bytes: &[u8], strict: bool) -> usize
     ensures { result ≡ prefix_len (is_whitespace strict) bytes.now }

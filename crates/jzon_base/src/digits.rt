@@ -1,10 +1,12 @@
-//! The digits of a number in a text, and the number that they mean (RFC 8259, section 6;
-//! docs/RULES.md, "What digits mean" and "Digit limits").
+//! The digits of a number in a text, and the number `mantissa * 10 ^ exponent` that they mean (RFC
+//! 8259, section 6; docs/RULES.md, "What digits mean" and "Digit limits").
 //!
-//! Take the digits before the point and those after it as one list. Its longest prefix that spells
-//! a number below 2^64 is kept: it is the mantissa. The digits after this prefix are dropped. An
-//! exact reading fails at the first of them that isn't 0, and where the exponent is clamped although
-//! the number isn't 0.
+//! The digits before the point (`whole`) and after it (`fraction`) are one list. Its longest prefix
+//! that spells a number below 2^64, the mantissa, is *kept*; the digits after it are *dropped*. The
+//! exponent is the *written* one (after `e`, else 0), plus the dropped digits before the point,
+//! minus the kept ones after it, *clamped* to an `i16`. An exact reading, a setting of the parser,
+//! fails at the first dropped digit that isn't 0, and where the exponent is clamped although the
+//! mantissa isn't 0.
 
 ghost use Rattle.std.specs.Prelude.{◌≡◌, ◌≢◌, ℕ, pos, ◌+◌, ◌%◌, ◌<◌, ◌≤◌, ◌^◌, ◌-ℤ◌, ◌+ℤ◌, ◌++◌, Bool, List, length, take, min, nat_lt, IfErr, IfSome, None, OkIff, slice_index, true};
 ghost use Rattle.std.specs.Char.{is_ascii_digit};
@@ -19,38 +21,36 @@ mod eight_at_once;
 
 use eight_at_once::{EIGHT, leading_digits, ten_to};
 
-/// Any 19 digits fit in a `u64`.
+/// So many digits are always kept: any 19 fit in a `u64`.
 const ALWAYS_KEPT: usize = 19;
 
-/// With so few digits of its own, the exponent of a number of `ALWAYS_KEPT` digits isn't clamped.
+/// With so few digits after `e`, the exponent of `ALWAYS_KEPT` digits isn't clamped.
 const NEVER_CLAMPED: usize = 4;
 
-/// The most digits before the point that may be dropped.
+/// The most digits before the point that may be dropped: `i16::MAX`, to fit in the exponent.
 const MAX_DROPPED: usize = 32767;
 
-/// The most digits after the point that may be kept.
+/// The most digits after the point that may be kept: minus `i16::MIN`, to fit in the exponent.
 const MAX_KEPT_FRACTION: usize = 32768;
 
-/// Written exponents are capped at this. What `clamped_exponent` adds is an `i16`, so the sum is
-/// beyond an `i16` and is clamped, as it would be with any larger exponent.
+/// A larger written exponent is read as this: with any `i16` added, it is clamped too.
 const MAX_WRITTEN: u64 = 65536;
 
-/// Why the digits of a number can't be read, with the position of the first digit for which they
-/// can't: among the digits before and after the point or, of `OutOfRange`, those of the exponent.
+/// Why digits can't be read (`Lost` and `OutOfRange`: read exactly), with the position of the first
+/// such digit, among those before and after the point; of `OutOfRange`, in the exponent.
 #[derive(Clone, Copy, Debug, PartialEq, Eq)]
 pub enum NumberFault {
-    /// The digit is the first beyond `MAX_DROPPED` dropped ones before the point, or beyond
-    /// `MAX_KEPT_FRACTION` kept ones after it.
+    /// The digit is the first beyond `MAX_DROPPED` dropped ones or `MAX_KEPT_FRACTION` kept ones.
     TooMany(usize),
     /// The digit is dropped and isn't 0.
     Lost(usize),
-    /// The exponent up to this digit is clamped, and the number isn't 0.
+    /// The exponent up to this digit is clamped, and the mantissa isn't 0.
     OutOfRange(usize),
 }
 
-/// What `read_digits` returns, if these are at most `ALWAYS_KEPT` and `NEVER_CLAMPED` digits; else
-/// `None`. `number` is what `scan` returns for the digits before and after the point as one text,
-/// and `written` for those of the exponent. Each text may be empty.
+/// The mantissa and the exponent of a number with at most `ALWAYS_KEPT` digits, and `NEVER_CLAMPED`
+/// in the exponent; `None` for others, which need `read_digits`. `number` is what `scan` returned
+/// for `whole` and `fraction` as one text, and `written` for `exponent`. Each slice may be empty.
 pub fn read_scanned(
     whole: &[u8],
     fraction: &[u8],
@@ -72,7 +72,7 @@ pub fn read_scanned(
     if whole.len() + fraction.len() > ALWAYS_KEPT {
         return None;
     }
-    // None of the digits is dropped, and `number` is exact, although `scan` computes it modulo 2^64.
+    // Nothing is dropped, and `number` is exact, although computed modulo 2^64.
     let power = -(fraction.len() as i16);
     if exponent.is_empty() {
         return Some((number, power));
@@ -89,9 +89,9 @@ pub fn read_scanned(
     Some((number, sum))
 }
 
-/// The mantissa and the exponent of the number of these digits, however many they are. Fails at the
-/// first that is too many, whatever the exponent is. If the number must be `exact`, also fails at
-/// the first digit that is lost, and else at the one by which the exponent is clamped.
+/// The mantissa and the exponent of any digits. Fails at the first that is too many or, if the
+/// number must be `exact`, lost; if there is none, and it must be exact, at the one by which the
+/// exponent is clamped. Cold: most numbers need only `read_scanned`.
 #[cold]
 #[inline(never)]
 pub fn read_digits(
@@ -132,9 +132,8 @@ pub fn read_digits(
     Ok((number, clamped))
 }
 
-/// How many digits `bytes` begin with, and the number that they spell when appended to those of
-/// `before` (in the clause `n`, unreduced), modulo 2^64: `read_scanned` uses it only of so few
-/// digits that it is exact.
+/// How many digits `bytes` begins with, and the number that they spell when appended to those of
+/// `before`, modulo 2^64 (in the contract `n` is the number before, unreduced).
 #[inline]
 pub fn scan(bytes: &[u8], before: u64) -> (usize, u64)
     ensures count { result.0 ≡ prefix_len is_ascii_digit bytes.now }
@@ -155,7 +154,8 @@ pub fn scan(bytes: &[u8], before: u64) -> (usize, u64)
     (len + count, number)
 }
 
-/// As `scan`, byte by byte, for the last bytes, fewer than eight.
+/// How many digits the last bytes of `scan` begin with, and the number that they spell, appended to
+/// those of `before`, modulo 2^64.
 fn scan_by_bytes(bytes: &[u8], before: u64) -> (usize, u64)
     ensures count { result.0 ≡ prefix_len is_ascii_digit bytes.now }
     ensures number { (n : ℕ) → before ≡ n % 2 ^ 64
@@ -173,8 +173,8 @@ fn scan_by_bytes(bytes: &[u8], before: u64) -> (usize, u64)
     (bytes.len(), number)
 }
 
-/// The number that the kept digits spell, how many digits before the point are dropped, and how
-/// many after it are kept.
+/// The number that the kept digits spell, how many before the point are dropped, and how many after
+/// it are kept.
 fn kept_prefix(whole: &[u8], fraction: &[u8]) -> (u64, usize, usize)
     requires whole { All IsDigit whole.now }
     requires fraction { All IsDigit fraction.now }
@@ -192,9 +192,8 @@ fn kept_prefix(whole: &[u8], fraction: &[u8]) -> (u64, usize, usize)
     (number, 0, kept_fraction)
 }
 
-/// Appends digits to `before` as long as the number stays below 2^64, as it does for `sure` of them.
-/// Returns this number, and how many digits were appended. Cold, because only numbers of more than
-/// `ALWAYS_KEPT` digits need it.
+/// Appends digits to `before` as long as the number stays below 2^64, as it does for `sure` of
+/// them. Returns it, and how many were appended. Cold, because few numbers need it.
 #[cold]
 #[inline(never)]
 fn longest_prefix(before: u64, digits: &[u8], sure: usize) -> (u64, usize)
@@ -220,9 +219,8 @@ fn longest_prefix(before: u64, digits: &[u8], sure: usize) -> (u64, usize)
     (number, digits.len())
 }
 
-/// The position of the first digit that exceeds a limit, among those before and after the point: of
-/// `whole` digits before it `gone` are dropped, and of those after it `held` are kept. (No sum
-/// overflows, since `whole` is the length of a slice.)
+/// The position, among all digits, of the first beyond `MAX_DROPPED` or `MAX_KEPT_FRACTION`, or
+/// `None`: of `whole` digits before the point `gone` are dropped, and `held` after it are kept.
 fn first_too_many(whole: usize, gone: usize, held: usize) -> Option<usize>
     requires whole { whole < 2 ^ 63 }
     requires gone { gone ≤ whole }
@@ -239,8 +237,7 @@ fn first_too_many(whole: usize, gone: usize, held: usize) -> Option<usize>
     }
 }
 
-/// The written exponent, plus the dropped digits before the point, minus the kept ones after it,
-/// clamped. `written` is empty if there is no exponent.
+/// The exponent of the number: `written` has the digits of the written one, `positive` its sign.
 fn clamped_exponent(dropped: usize, kept_fraction: usize, positive: bool, written: &[u8]) -> i16
     requires digits { All IsDigit written.now }
     requires dropped { dropped ≤ MAX_DROPPED }
@@ -262,7 +259,7 @@ fn clamped_exponent(dropped: usize, kept_fraction: usize, positive: bool, writte
     sum.clamp(i32::from(i16::MIN), i32::from(i16::MAX)) as i16
 }
 
-/// The greatest written exponent by which the exponent of the number isn't clamped.
+/// The greatest magnitude of a written exponent of this sign by which the exponent isn't clamped.
 fn most_written(dropped: usize, kept_fraction: usize, positive: bool) -> u32
     requires dropped { dropped ≤ MAX_DROPPED }
     requires kept { kept_fraction ≤ MAX_KEPT_FRACTION }
@@ -278,8 +275,8 @@ fn most_written(dropped: usize, kept_fraction: usize, positive: bool) -> u32
     }
 }
 
-/// The position of the first of these digits with which they spell more than `limit`. Cold, because
-/// only exact readings ask for it.
+/// The position of the digit with which the digits spell more than `limit`, or `None`. Cold,
+/// because only exact readings ask for it.
 #[cold]
 #[inline(never)]
 fn first_above(limit: u32, digits: &[u8]) -> Option<usize>
@@ -298,8 +295,9 @@ fn first_above(limit: u32, digits: &[u8]) -> Option<usize>
     None
 }
 
-/// The position of the first digit that is dropped and isn't 0: of the prefix that ends with it
-/// `loses_last` holds. `gone` digits before the point are dropped, and `held` after it are kept.
+/// The position, among all digits, of the first that is dropped and isn't 0, or `None`: `gone`
+/// before the point are dropped, and `held` after it are kept. Cold, because only exact readings ask
+/// for it.
 #[cold]
 #[inline(never)]
 fn first_lost(whole: &[u8], fraction: &[u8], gone: usize, held: usize) -> Option<usize>
@@ -317,7 +315,7 @@ fn first_lost(whole: &[u8], fraction: &[u8], gone: usize, held: usize) -> Option
     }
 }
 
-/// The position of the first digit at `start` or after it that isn't 0.
+/// The position of the first digit at `start` or after it that isn't 0, or `None`.
 fn first_nonzero(digits: &[u8], start: usize) -> Option<usize>
     ensures some { IfSome result (λ i. (start ≤ i) × (i < length digits.now)
         × (slice_index digits.now i ≢ zero_digit)
@@ -334,7 +332,7 @@ fn first_nonzero(digits: &[u8], start: usize) -> Option<usize>
 }
 
 /// The written exponent that the digits spell, at most `MAX_WRITTEN`. Cold, because most numbers
-/// have no written exponent.
+/// have none.
 #[cold]
 #[inline(never)]
 fn capped_number(digits: &[u8]) -> u64
@@ -348,8 +346,8 @@ fn capped_number(digits: &[u8]) -> u64
     number
 }
 
-/// A law on the definitions alone. Nothing calls this function: a statement is proved only if it is
-/// in a contract.
+/// Proves that the kept digits, as defined, are the longest prefix that spells a number below 2^64.
+/// Nothing calls it: a law is proved only in a contract.
 pub fn keeps_longest_prefix()
     ensures { KeepsLongestPrefix }
 {}

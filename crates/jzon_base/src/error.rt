@@ -12,12 +12,12 @@ use std::fmt::Write;
 use std::io::ErrorKind;
 use std::{fmt, io};
 
-/// Why a text is rejected, or a call on a value fails. Below, `L` and `K` are the line and the
-/// column of a character in its text. Both are counted from 1, and a column in characters.
+/// Why a text is rejected, or a call on a value fails. Lines (`L`) and columns (`K`) are counted
+/// from 1, columns in characters.
 #[derive(Clone, Debug, PartialEq, Eq, Drop)]
 pub enum Error {
     /// The character `ch` isn't allowed here. Printed as `Unexpected character: C at (L:K)`, where
-    /// `C` is the character itself, not escaped: a newline is printed as a newline.
+    /// `C` is `ch` itself, not escaped.
     UnexpectedCharacter {
         ch: char,
         line: usize,
@@ -25,27 +25,28 @@ pub enum Error {
     },
     /// The text ends inside a value, or before one. Printed as `Unexpected end of JSON`.
     UnexpectedEndOfJson,
-    /// More than 512 containers that aren't empty are open in a text, or more than its `Reading`
-    /// allows. Or more than 32767 digits before a number's point are cut, or more than 32768 after
-    /// it are kept. Or a value that is printed nests 2^64 deep. Printed as `Exceeded depth limit`.
+    /// In a text, more containers that aren't empty are open than its `Reading`, the settings of a
+    /// parser, allows (at most 512); or of a number more than 32767 digits before the point don't fit
+    /// in the mantissa, or more than 32768 after it do. Or a value that is printed nests 2^64 deep.
+    /// Printed as `Exceeded depth limit`.
     ExceededDepthLimit,
-    /// Two `\u` escapes of surrogates mean no character together, or the bytes that `consume` of a
-    /// generator takes aren't UTF-8. Printed as `Failed to parse UTF-8 bytes`.
+    /// Two `\u` escapes of surrogates mean no character together, or the bytes that a generator's
+    /// `consume` takes aren't UTF-8. Printed as `Failed to parse UTF-8 bytes`.
     FailedUtf8Parsing,
-    /// The value of a `push` isn't an array, or that of an `insert` isn't an object. Printed as
+    /// `push` on a value that isn't an array, or `insert` on one that isn't an object. Printed as
     /// `Wrong type, expected: X`, where `X` is the word here, `Array` or `Object`.
     WrongType(String),
     /// An allocation failed. Printed as `Out of memory`.
     OutOfMemory,
-    /// A strict reading found a key for the second time in an object. Line and column are those of
-    /// its opening quote. Printed as `Duplicate key at (L:K)`.
+    /// With a strict `Reading`, an object repeats a key, whose opening quote is at this line and
+    /// column. Printed as `Duplicate key at (L:K)`.
     DuplicateKey {
         line: usize,
         column: usize,
     },
-    /// An exact reading found a number that would be read with another value than its digits and
-    /// exponent spell. Line and column are those of the first character with which it would. Printed
-    /// as `Number is not exact at (L:K)`.
+    /// With an exact `Reading`, a number would get another value than its digits and exponent
+    /// spell, from the character at this line and column on. Printed as
+    /// `Number is not exact at (L:K)`.
     InexactNumber {
         line: usize,
         column: usize,
@@ -55,12 +56,12 @@ pub enum Error {
 /// The result of a call that fails with an `Error`.
 pub type Result<T> = std::result::Result<T, Error>;
 
-/// `Result` under another name.
+/// `Result` under a name that the Rust crate deprecates.
 pub type JsonResult<T> = Result<T>;
 
 impl Error {
-    /// `WrongType` for a value that isn't of the kind `expected`. The word is allocated, so the
-    /// call itself can fail with `OutOfMemory`.
+    /// `WrongType` with the word `expected`, such as `Array`. Its copy is allocated, which can fail
+    /// with `OutOfMemory`.
     pub fn wrong_type(alloc: Global, expected: &str) -> Result<Error>
         ensures words { IfOk result (IsWrongType expected.now) }
         ensures memory { IsOkUnless result Error.OutOfMemory }
@@ -68,8 +69,7 @@ impl Error {
         Ok(Error::WrongType(String::from_str(alloc, expected)?))
     }
 
-    /// The line, counted from 1, at which the text was rejected. `None` for an error without a
-    /// position.
+    /// The line, counted from 1. `None` for an error without a position.
     pub fn line(&self) -> Option<usize>
         ensures { result ≡ line_in self.now }
     {
@@ -95,7 +95,7 @@ impl Error {
 }
 
 impl Error {
-    /// The kind of the `io::Error` that it becomes.
+    /// The kind of the `io::Error` that `From` makes of this error.
     #[doc(hidden)]
     pub fn io_kind(&self) -> ErrorKind
         ensures { result ≡ io_kind self.now }
@@ -108,7 +108,7 @@ impl Error {
     }
 }
 
-/// The words that are given at each variant. Widths and other flags are ignored.
+/// Prints what is given at each variant. Format flags are ignored.
 impl fmt::Display for Error {
     ghost output = { λ e. Some (error_text e) };
 
@@ -134,7 +134,7 @@ impl fmt::Display for Error {
 
 impl std::error::Error for Error {}
 
-/// So that `?` after a call of std returns `OutOfMemory`.
+/// So that `?` works on allocations of std.
 impl From<AllocError> for Error {
     ghost from_gives = { λ _ e. e ≡ OutOfMemory };
 
@@ -143,7 +143,7 @@ impl From<AllocError> for Error {
     }
 }
 
-/// What was to be stored, and came back with the error, is dropped.
+/// So that `?` works where the error has the value that couldn't be stored; it is dropped.
 impl<T: Drop> From<AllocFailed<T>> for Error {
     ghost from_gives = { λ _ e. e ≡ OutOfMemory };
 
@@ -152,10 +152,9 @@ impl<T: Drop> From<AllocFailed<T>> for Error {
     }
 }
 
-/// So that `?` works in a `main` that returns an `io::Result`. The kind is `OutOfMemory`,
-/// `UnexpectedEof` if the text ends too early, or else `InvalidData`. The message is what `Display`
-/// prints; of more than 80 bytes, which is all that an `io::Error` keeps, the end is cut, with dots
-/// in its place.
+/// For `?` in a `main` that returns an `io::Result`. The kind is `OutOfMemory`, `UnexpectedEof` if
+/// the text ends too early, or else `InvalidData`. The message is what `Display` prints; of more
+/// than 80 bytes, all that an `io::Error` keeps, the end is replaced by dots.
 impl From<Error> for io::Error {
     ghost from_gives = { λ e i. error_kind i ≡ io_kind e };
 
@@ -164,8 +163,8 @@ impl From<Error> for io::Error {
     }
 }
 
-/// An `io::Error` of this kind, whose message is what `Display` prints. Of more than 80 bytes the
-/// end is cut, with dots in its place.
+/// An `io::Error` of this kind, whose message is what `Display` prints. If `write!` fails, `head` has
+/// more than 80 bytes, and `io::Error::new` replaces the end by dots anyway.
 #[doc(hidden)]
 pub fn io_error<T: fmt::Display>(kind: ErrorKind, error: &T) -> io::Error
     ensures { error_kind result ≡ kind }
@@ -179,15 +178,14 @@ pub fn io_error<T: fmt::Display>(kind: ErrorKind, error: &T) -> io::Error
     io::Error::new(kind, head.words.as_str())
 }
 
-/// The first characters of a message, up to one that doesn't fit: then they have more than 80 bytes,
-/// as a character has at most 4, so that `io::Error::new` puts the dots.
+/// The first characters of a message, at most 84 bytes. If a character, of at most 4, doesn't fit,
+/// there are more than 80.
 #[derive(Drop)]
 struct Head {
     words: ArrayString<84>,
 }
 
 impl fmt::Write for Head {
-    /// Takes the part character by character, and fails at the first that doesn't fit.
     fn write_str(&mut self, part: &str) -> fmt::Result {
         for c in part.chars() {
             if self.words.try_push(c).is_err() {

@@ -4,7 +4,7 @@ ghost use Rattle.std.specs.Str.{IsCharBoundary};
 
 use arrayvec::ArrayString;
 
-/// The text, inline.
+/// Copies the text into an `ArrayString`.
 #[inline(always)]
 pub(crate) fn text_in<const MAX: usize>(text: &str) -> ArrayString<MAX>
     requires { length text.now ≤ MAX }
@@ -15,8 +15,8 @@ pub(crate) fn text_in<const MAX: usize>(text: &str) -> ArrayString<MAX>
     inline
 }
 
-/// The text, with which `wide` begins. `MAX` bytes of `wide` are copied and cut: a copy of a fixed
-/// number of bytes takes no call. The caller tests whether `wide` can be cut there.
+/// Copies `text`, a prefix of `wide`, which must have a character boundary at `MAX`: `MAX` bytes of
+/// `wide` are copied, then cut, because a copy of a fixed number of bytes takes no call.
 #[inline(always)]
 #[tactic(auto, using(crate::proofs::Strings::CopiedPrefixes::splits_front))]
 pub(crate) fn front_of<const MAX: usize>(text: &str, wide: &str) -> ArrayString<MAX>

@@ -12,10 +12,10 @@ use std::alloc::{AllocError, Global};
 use std::fmt;
 use std::marker::Model;
 
-/// The most bytes of text that is stored inline.
+/// The most bytes that a key stores inline.
 const INLINE_MAX: usize = 32;
 
-/// A key of an object. Text of up to `INLINE_MAX` bytes is stored inline, longer text in an
+/// A key of an object. Up to `INLINE_MAX` bytes, 32, are stored in the key itself, longer text in an
 /// allocated `String`.
 #[derive(Drop)]
 pub struct Key {
@@ -35,7 +35,7 @@ impl Model for Key {
 }
 
 impl Key {
-    /// The key with this text. Text of up to `INLINE_MAX` bytes allocates nothing.
+    /// The key with this text. Only text longer than `INLINE_MAX` allocates, and can fail.
     pub fn new(alloc: Global, text: &str) -> Result<Key, AllocError>
         ensures bytes { IfOk result (λ k. k ≡ text.now) }
         ensures long { OnErr result (32 < length text.now) }
@@ -48,9 +48,9 @@ impl Key {
         Ok(Key { text })
     }
 
-    /// Appends the key with this text, with which `wide` begins, to `keys`, where it is made, so
-    /// that it isn't moved. From `wide` a short text is copied faster (`inline::front_of`). After
-    /// an error no key is appended.
+    /// Appends the key of `text`, a prefix of `wide`, to `keys`, where it is made, so that it isn't
+    /// moved. If `wide` can be cut at `INLINE_MAX`, so many of its bytes are copied, without a call,
+    /// and short text is cut out of them.
     #[doc(hidden)]
     #[inline(always)]
     pub fn push_wide(
@@ -74,8 +74,8 @@ impl Key {
         Ok(())
     }
 
-    /// A copy. Text of up to `INLINE_MAX` bytes allocates nothing. Inlined, so that a copy is made
-    /// where it stays.
+    /// A copy. Only text longer than `INLINE_MAX` allocates, and can fail. Inlined, so that it is
+    /// made where it stays.
     #[inline(always)]
     pub fn clone(&self, alloc: Global) -> Result<Key, AllocError>
         ensures bytes { IfOk result (λ k. k ≡ self.now) }
@@ -99,8 +99,8 @@ impl Key {
         }
     }
 
-    /// The text as a `String`. Only text that was stored inline is allocated here. Fails with
-    /// `OutOfMemory` only.
+    /// The text as a `String`. Inline text is allocated, which can fail with `OutOfMemory`;
+    /// longer text is moved.
     pub fn into_string(self, alloc: Global) -> error::Result<String>
         ensures bytes { IfOk result (λ s. string_bytes s ≡ self) }
         ensures short { OnErr result (length self ≤ 32) }

@@ -1,6 +1,7 @@
 //! The keys of an object in the order in which they were put, and the position of each
-//! (docs/RULES.md, "Objects"). Up to `LINEAR_MAX` keys are compared one by one. From the next key
-//! on, and still after removals, there is an index (`runs`).
+//! (docs/RULES.md, "Objects"). Up to `LINEAR_MAX` keys, 32, are compared one by one. From the next
+//! on, and still after removals, there is an index: sorted vectors, *runs*, with an entry for each
+//! key, its hash and position.
 ghost use Rattle.std.specs.Prelude.{◌≡◌, ◌<◌, ◌++◌, ◌∷◌, ◌==◌, [], length, remove, slice_get, List, ℕ, IfOk, IfErr, OnOk, OnErr, MatchOption, None, Some, vec_len, vec_capacity};
 ghost use Rattle.std.specs.List.{position, zip, IsDistinct};
 ghost use Rattle.std.specs.Result.{result_ok};
@@ -27,7 +28,7 @@ use runs::Runs;
 use std::alloc::{AllocError, Global};
 use std::marker::Model;
 
-/// How many elements a vector that grows one by one first has room for.
+/// The first capacity of a vector that grows one by one.
 const FIRST_ROOM: usize = 8;
 
 /// Distinct keys, and their index, which may be empty.
@@ -45,7 +46,7 @@ impl Model for Keys {
     ghost invariant = { λ k. IsTable k.keys.items k.index };
 }
 
-/// Where the index entry of a missing key belongs, if the keys have an index.
+/// Where the index entry of a missing key of this hash belongs.
 #[derive(Drop)]
 struct Spot {
     hash: u64,
@@ -53,8 +54,8 @@ struct Spot {
     at: usize,
 }
 
-/// The position of a key. At `Err`: where the index entry of a missing key belongs; `None` if the
-/// keys have no index.
+/// The position of the key `name`. At `Err` it is missing: where its index entry belongs; `None`
+/// without an index. Not a method, because `KnownKeys` calls it too.
 #[inline(always)]
 fn search(keys: &[Key], index: &Runs, name: &str) -> Result<usize, Option<Spot>>
     requires { IsTable keys.now index.now }
@@ -71,8 +72,8 @@ fn search(keys: &[Key], index: &Runs, name: &str) -> Result<usize, Option<Spot>>
         .map_err(|at| Some(Spot { hash, at }))
 }
 
-/// Makes the index of keys and a missing key, which the caller puts after them. After an error the
-/// index is empty or that of the keys alone.
+/// Makes the index of `keys` and the missing key `name`, which the caller then pushes. After an
+/// error the index is empty or that of `keys`.
 #[inline(never)]
 fn begin_index(alloc: Global, keys: &[Key], index: &mut Runs, name: &str) -> Result<(), AllocError>
     requires distinct { IsDistinct bytes_eq keys.now }
@@ -88,8 +89,9 @@ fn begin_index(alloc: Global, keys: &[Key], index: &mut Runs, name: &str) -> Res
     }
 }
 
-/// Adds the entry of a missing key, which the caller puts after these keys, to their index, if they
-/// have one or are at least `LINEAR_MAX`. After an error the index is empty or that of these keys.
+/// Adds the entry of the missing key `name`, which the caller then pushes, at the `spot` from
+/// `search`. Without an index, `LINEAR_MAX` keys or more get one, fewer don't. After an error it is
+/// empty or that of `keys`.
 #[inline(always)]
 fn add_entry(
     alloc: Global,
@@ -114,7 +116,7 @@ fn add_entry(
     index.add(alloc, keys, spot.hash, spot.at)
 }
 
-/// Makes room for one more element. If there is room, the test here takes fewer instructions than
+/// Reserves room for one element. If there is some, this test takes fewer instructions than
 /// `reserve`.
 #[inline(always)]
 fn reserve_next<T>(items: &mut Vec<T>) -> Result<(), AllocError>
@@ -128,8 +130,7 @@ fn reserve_next<T>(items: &mut Vec<T>) -> Result<(), AllocError>
     items.reserve(room)
 }
 
-/// The keys and the values of entries that are put one after the other: of those with equal keys,
-/// the last value at the position of the first.
+/// Puts one entry after the other, for `Keys::from_entries`.
 #[inline(never)]
 fn put_each<V: Drop>(
     alloc: Global,
@@ -142,7 +143,7 @@ fn put_each<V: Drop>(
 {
     let mut index = Runs::new(alloc);
     // The first `kept` keys and values are the result so far. The value of a repeated key is
-    // swapped with the earlier one, which is cut off at the end, as is the key.
+    // swapped with the earlier one, which is cut off at the end.
     let mut kept = 0;
     for at in 0..keys.len() {
         let before = &keys[..kept];
@@ -159,21 +160,21 @@ fn put_each<V: Drop>(
     }
     keys.truncate(kept);
     values.truncate(kept);
-    // Copies, because the room of the entries that are gone would stay idle.
+    // Copies, so that the room of the entries that are gone is freed.
     let keys = keys.split_off(0)?;
     let values = values.split_off(0)?;
     Ok((Keys { keys, index }, values))
 }
 
 impl Keys {
-    /// No key. Takes no memory.
+    /// No key. Allocates nothing.
     pub fn new(alloc: Global) -> Keys
         ensures { result ≡ [] }
     {
         Keys::from_distinct(alloc, Vec::new(alloc))
     }
 
-    /// No key, with room for `capacity` of them, and for an index as `Runs::with_capacity` makes it.
+    /// No key, with capacity for `capacity` of them, and for their index if they need one.
     pub fn with_capacity(alloc: Global, capacity: usize) -> Result<Keys, AllocError>
         ensures { IfOk result (λ k. k ≡ []) }
     {
@@ -192,8 +193,9 @@ impl Keys {
         Keys { keys, index }
     }
 
-    /// Does what `put_each` does. More than `LINEAR_MAX` keys of which none repeats get their index
-    /// by one sort.
+    /// The keys and values of entries put one after the other: of equal keys, the last value at the
+    /// position of the first. If none repeats, more than `LINEAR_MAX` keys get their index by one
+    /// sort.
     pub fn from_entries<V: Drop>(
         alloc: Global,
         keys: Vec<Key>,
@@ -213,7 +215,7 @@ impl Keys {
         put_each(alloc, keys, values)
     }
 
-    /// These keys, with the index that is known of exactly them, if there is one.
+    /// These keys, in which `known` found no repeated one, with its index of them, if any.
     pub fn from_known(alloc: Global, keys: Vec<Key>, known: KnownKeys) -> Keys
         requires { Knows keys.items known }
         ensures { result ≡ keys.items }
@@ -232,7 +234,7 @@ impl Keys {
         self.keys
     }
 
-    /// The clause `distinct` gives proofs the invariant.
+    /// How many keys. (`distinct`, true of all `Keys`, is for callers' proofs.)
     pub fn len(&self) -> usize
         ensures len { result ≡ length self.now }
         ensures distinct { IsDistinct bytes_eq self.now }
@@ -247,7 +249,7 @@ impl Keys {
         search(self.keys.as_slice(), &self.index, name).ok()
     }
 
-    /// The key at a position.
+    /// The text of the key at a position.
     pub fn get(&self, position: usize) -> &str
         requires { position < length self.now }
         ensures { slice_get self.now position ≡ Some result.now }
@@ -255,8 +257,8 @@ impl Keys {
         self.keys[position].as_str()
     }
 
-    /// The position of a key. A missing key is put last, and the result is `None`: then `values`
-    /// have room for one more. After an error nothing has changed.
+    /// The position of the key `name`. If it is missing, it is put last, the result is `None`, and
+    /// `values` has room for its value, which the caller pushes.
     #[inline(always)]
     pub fn put<V>(
         &mut self,
@@ -278,8 +280,7 @@ impl Keys {
             Ok(position) => return Ok(Some(position)),
             Err(spot) => spot,
         };
-        // All allocations come before the key is pushed, so a failed one leaves the keys as they
-        // were.
+        // All allocations come first, so that a failed one changes no key.
         reserve_next(&mut self.keys)?;
         reserve_next(values)?;
         let key = Key::new(alloc, name)?;
@@ -288,7 +289,7 @@ impl Keys {
         Ok(None)
     }
 
-    /// Removes the key at a position. The others keep their order. Takes no memory.
+    /// Removes and returns the key at a position; later ones move down. Allocates nothing.
     pub fn remove(&mut self, position: usize) -> Key
         requires { position < length self.old }
         ensures key { slice_get self.old position ≡ Some result }
@@ -319,7 +320,7 @@ impl Keys {
         Ok(Keys { keys, index })
     }
 
-    /// Iterates over the keys in order, from both ends.
+    /// Iterates in order, from both ends.
     pub fn iter(&self) -> Iter<'_>
         ensures { result ≡ self.now }
     {

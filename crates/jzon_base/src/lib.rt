@@ -1,5 +1,5 @@
-//! What JSON values and their parser are built on: errors, digits and numbers, escapes and the bytes
-//! that need none, short strings, keys, and lists of entries.
+//! What JSON values and their parser are built on: errors, numbers, escapes, short strings, keys,
+//! and the entries of objects.
 #![tactic(auto)]
 
 pub mod digits;

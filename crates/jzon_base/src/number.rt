@@ -1,4 +1,4 @@
-//! Numbers: exact decimals, and NaN (docs/RULES.md, "Numbers"). They are compared without rounding.
+//! Numbers: exact decimals, and NaN (docs/RULES.md, "Numbers").
 
 ghost use Rattle.std.specs.Prelude.{◌≡◌, ◌*◌, ◌^◌, ◌<◌, ◌≤◌, ◌==◌, ◌||◌, MatchOption, Some};
 ghost use Rattle.std.specs.Cmp.{partial_equiv_from_equiv};
@@ -16,6 +16,7 @@ use std::fmt;
 use std::marker::Model;
 pub use to_integer::NumberOutOfScope;
 
+/// The sign of a number, or NaN.
 #[derive(Clone, Copy, Debug)]
 enum Category {
     Negative,
@@ -23,10 +24,9 @@ enum Category {
     Nan,
 }
 
-/// A number: NaN, or the exact decimal `mantissa * 10 ^ exponent` with a sign. The mantissa is a
-/// `u64`, and the exponent an `i16`. The parts stay as they were read or set: `1.50` and `1.5` have
-/// different parts and are equal. Digits that make the mantissa too large are cut when a text is
-/// read, and no call returns whether some were.
+/// A number: NaN, or the exact decimal `mantissa * 10 ^ exponent` with a sign. The parts stay as
+/// they were read or set: `1.50` and `1.5` have different parts and are equal. Digits that make the
+/// mantissa too large are cut when a text is read, and no call tells whether some were.
 // The gaps are 0. As fields they leave no padding, so that a copy field by field is one move.
 #[derive(Clone, Copy)]
 pub struct Number {
@@ -59,7 +59,7 @@ pub const NAN: Number = Number {
 
 impl Number {
     /// The number with exactly these parts, including trailing zeros of the mantissa. Nothing is
-    /// unsafe about it; the name is that of the Rust crate.
+    /// unsafe about it; the name is the Rust crate's.
     pub fn from_parts_unchecked(positive: bool, mantissa: u64, exponent: i16) -> Number
         ensures { result ≡ parts positive mantissa exponent }
     {
@@ -77,9 +77,9 @@ impl Number {
         }
     }
 
-    /// The number with this sign and decimal. Trailing zeros of the mantissa are stripped, one at a
-    /// time, while the exponent is negative: `(true, 150, -2)` becomes `(true, 15, -1)`. A mantissa
-    /// 0 with a negative exponent ends at exponent 0.
+    /// The number with this sign and decimal. Trailing zeros of the mantissa are stripped while the
+    /// exponent is negative: `(true, 150, -2)` becomes `(true, 15, -1)`. A mantissa 0 with a
+    /// negative exponent ends at exponent 0.
     pub fn from_parts(positive: bool, mantissa: u64, exponent: i16) -> Number
         ensures { StripsTo positive mantissa exponent result }
     {
@@ -190,7 +190,7 @@ impl Eq for Number {
     ghost laws = { same_decimal_equiv };
 }
 
-/// The category, the exponent and the mantissa, for debugging only.
+/// The fields without the gaps.
 impl fmt::Debug for Number {
     fn fmt<W: fmt::Write>(&self, f: &mut fmt::Formatter<W>) -> fmt::Result {
         f.debug_struct("Number")
@@ -201,8 +201,8 @@ impl fmt::Debug for Number {
     }
 }
 
-/// The text of docs/RULES.md, "Printed numbers", in which a value prints it; `nan` for NaN. Widths
-/// and other flags are ignored.
+/// Prints the number as in JSON text (docs/RULES.md, "Printed numbers"), and NaN as `nan`. Format
+/// flags are ignored.
 impl fmt::Display for Number {
     ghost output = { λ n. Some (decimal_text n) };
 
@@ -215,8 +215,8 @@ impl fmt::Display for Number {
     }
 }
 
-/// Whether two numbers of one sign, neither 0, with these mantissas and exponents are equal: that
-/// of the higher exponent is scaled to the lower one.
+/// Whether `mantissa * 10 ^ exponent` of both are equal: that of the higher exponent is scaled to
+/// the lower one. If it then doesn't fit in a `u64`, they differ.
 #[tactic(auto, using(crate::proofs::Numbers::Scaling::same_rules))]
 fn same_magnitude(mantissa: u64, exponent: i16, other_mantissa: u64, other_exponent: i16) -> bool
     requires left { 0 < mantissa }
@@ -231,7 +231,8 @@ fn same_magnitude(mantissa: u64, exponent: i16, other_mantissa: u64, other_expon
     }
 }
 
-/// `mantissa * 10 ^ power`, or `None` if that is 2^64 or more (it never is for a mantissa 0).
+/// `mantissa * 10 ^ power`, or `None` if that is 2^64 or more. It is if `10 ^ power` alone is, since
+/// the mantissa isn't 0.
 #[tactic(auto, using(crate::proofs::Numbers::Powers::too_large))]
 fn times_power(mantissa: u64, power: u32) -> Option<u64>
     requires { 0 < mantissa }

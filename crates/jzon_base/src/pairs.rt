@@ -1,5 +1,6 @@
-//! Values under distinct keys, in a box (docs/RULES.md, "Objects"), so that what holds `Pairs` is
-//! small. The words of a clause `writes_back` are explained in `jzon_tree/specs/LentTypes.antt`.
+//! The entries of an object, in a box (docs/RULES.md, "Objects"), so that what holds `Pairs` is
+//! small. A contract's `writes_back` says what they are after a write through the returned
+//! reference (`jzon_tree/specs/LentTypes.antt`).
 ghost use Rattle.std.specs.Prelude.{◌≡◌, ◌<◌, ◌-◌, ◌∷◌, ◌==◌, List, ℕ, [], length, remove, slice_get, Some, None, OnOk, OnErr, IfOk, MatchOption};
 ghost use Rattle.std.specs.List.{position, zip, IsDistinct};
 ghost use Rattle.std.specs.Map.Calls.{CalledAtPair, CallableOnEachPair, RetainsPairs, TakesPair};
@@ -45,7 +46,7 @@ impl<V> Pairs<V> {
     ghost use Rattle.jzon_base.specs.contracts.pairs.contents.Contents.{the_row as entries_row};
     ghost use Rattle.jzon_base.specs.PairList.{find, put, cut, set_value, with_default, keys_of, values_of};
 
-    /// No entry. Takes no memory.
+    /// No entry. Allocates nothing.
     pub fn new(alloc: Global) -> Pairs<V>
         ensures { result ≡ [] }
     {
@@ -53,7 +54,7 @@ impl<V> Pairs<V> {
         Pairs { alloc, entries }
     }
 
-    /// `Pairs` of keys and as many values, which are put in a box.
+    /// Puts keys and as many values in a box.
     #[inline(always)]
     fn boxed(alloc: Global, keys: Keys, values: Vec<V>) -> Result<Pairs<V>, AllocError>
     where
@@ -65,7 +66,7 @@ impl<V> Pairs<V> {
         Ok(Pairs { alloc, entries })
     }
 
-    /// No entry, with room for `capacity` of them (`Keys::with_capacity`).
+    /// No entry, with room for `capacity` of them, and for their index.
     pub fn with_capacity(alloc: Global, capacity: usize) -> Result<Pairs<V>, AllocError>
     where
         V: Drop,
@@ -79,9 +80,9 @@ impl<V> Pairs<V> {
         Pairs::boxed(alloc, keys, values)
     }
 
-    /// The entries of keys and as many values, put one after the other: those of equal keys become
-    /// one, with the last value at the position of the first. Inlined for few keys of which none
-    /// repeats, because each small object of a text is made here.
+    /// The entries of keys and as many values, put one after the other: of equal keys, the last
+    /// value at the position of the first. Inlined for few distinct keys, because each small object
+    /// of a text is made here.
     #[inline(always)]
     pub fn from_entries(
         alloc: Global,
@@ -102,8 +103,8 @@ impl<V> Pairs<V> {
         Pairs::merged(alloc, keys, values)
     }
 
-    /// `from_entries` of more than `LINEAR_MAX` keys, or of keys of which some repeat. Not inlined,
-    /// because `from_entries` is.
+    /// The rest of `from_entries`, not inlined: more than `LINEAR_MAX` keys, or repeated ones, which
+    /// get the last value at the first's position.
     #[inline(never)]
     fn merged(alloc: Global, keys: Vec<Key>, values: Vec<V>) -> Result<Pairs<V>, AllocError>
     where
@@ -115,8 +116,8 @@ impl<V> Pairs<V> {
         Pairs::boxed(alloc, keys, values)
     }
 
-    /// The entries of distinct keys and as many values, with the index that `known` has, if it has
-    /// one. The clause says `put_each`, as that of `from_entries`.
+    /// The entries of distinct keys and as many values, with the index that `known` has, if any. Of
+    /// distinct keys `put_each` is just the entries.
     pub fn from_known(
         alloc: Global,
         keys: Vec<Key>,
@@ -163,12 +164,12 @@ impl<V> Pairs<V> {
         }
     }
 
-    /// The allocator of the entries, for std's `Clone` of objects, which is passed none.
+    /// The allocator, for std's `Clone` of objects, which is passed none.
     pub fn allocator(&self) -> Global {
         self.alloc
     }
 
-    /// The clause `distinct` gives proofs the invariant.
+    /// How many entries. (`distinct`, true of all `Pairs`, is for callers' proofs.)
     pub fn len(&self) -> usize
         ensures len { result ≡ length self.now }
         ensures distinct { IsDistinct bytes_eq (keys_of self.now) }
@@ -206,7 +207,7 @@ impl<V> Pairs<V> {
         &[]
     }
 
-    /// The position of the entry with this key.
+    /// The position of the entry with this key, or `None`.
     pub fn position(&self, name: &str) -> Option<usize>
         ensures { result ≡ position (λ k. bytes_eq k name.now) (keys_of self.now) }
     {
@@ -227,7 +228,7 @@ impl<V> Pairs<V> {
         }
     }
 
-    /// The entries in their box, to be written; `None` if there is no box, and so no entry.
+    /// The box, to be written; `None` if there is none, and so no entry.
     fn entries_mut(&mut self) -> Option<&mut Contents<V>>
         ensures* writes_back { sem 𝓛 (LendsIf (the_row V.row) (entries_row V.row) self.entry result
             (λ es. es) []) }
@@ -240,7 +241,7 @@ impl<V> Pairs<V> {
         }
     }
 
-    /// The value at a position, to be written: nothing else changes.
+    /// The value at a position, to be written.
     pub fn value_mut(&mut self, position: usize) -> &mut V
         requires { position < length self.old }
         ensures* writes_back { sem 𝓛 (Lends (the_row V.row) V.row self.entry result
@@ -253,7 +254,7 @@ impl<V> Pairs<V> {
         }
     }
 
-    /// The value of a key. `None` if the key is missing.
+    /// The value of a key, or `None` if it is missing.
     #[tactic(auto, using(crate::proofs::Entries::PairPositions::places))]
     pub fn get(&self, name: &str) -> Option<&V>
         ensures { option_copied result ≡ find name.now self.now }
@@ -261,7 +262,7 @@ impl<V> Pairs<V> {
         Some(self.get_at(self.position(name)?).1)
     }
 
-    /// The value of a key, to be written. `None` if the key is missing.
+    /// The value of a key, to be written, or `None` if it is missing.
     #[tactic(auto, using(crate::proofs::Entries::PairPositions::places))]
     pub fn get_mut(&mut self, name: &str) -> Option<&mut V>
         ensures* writes_back { sem 𝓛 (LendsIf (the_row V.row) V.row self.entry result
@@ -273,8 +274,7 @@ impl<V> Pairs<V> {
         Some(self.value_mut(position))
     }
 
-    /// Puts the first entry, into a new box: there is none yet. After an error there is still no
-    /// entry.
+    /// Puts the first entry, into a new box.
     #[inline(never)]
     fn insert_first(&mut self, alloc: Global, name: &str, value: V) -> Result<(), AllocError>
     where
@@ -291,8 +291,8 @@ impl<V> Pairs<V> {
         Ok(())
     }
 
-    /// Puts a value under a key. If the key is there, its value is replaced, which takes no memory;
-    /// else the entry is put last. After an error nothing has changed.
+    /// Puts a value under a key: replaces that of a key that is there, which allocates nothing, or
+    /// else puts the entry last. After an error nothing has changed.
     pub fn insert(&mut self, alloc: Global, name: &str, value: V) -> Result<(), AllocError>
     where
         V: Drop,
@@ -306,8 +306,8 @@ impl<V> Pairs<V> {
         self.insert_first(alloc, name, value)
     }
 
-    /// The position of a key. If the key is missing, it is put last with `value`; if it is there,
-    /// `value` is dropped, and no memory is taken. After an error nothing has changed.
+    /// The position of a key. A missing key is put last with `value`; else `value` is dropped, and
+    /// nothing allocated. After an error nothing has changed.
     pub fn place(&mut self, alloc: Global, name: &str, value: V) -> Result<usize, AllocError>
     where
         V: Drop,
@@ -324,8 +324,8 @@ impl<V> Pairs<V> {
         Ok(0)
     }
 
-    /// The value of a key, to be written. A missing key is first put last with `value`, as by
-    /// `place`.
+    /// The value of a key, to be written. A missing key is first put last with `value`; else
+    /// `value` is dropped. After an error nothing has changed.
     #[tactic(auto, using(crate::proofs::Entries::PairPositions::places))]
     pub fn at_mut(&mut self, alloc: Global, name: &str, value: V) -> Result<&mut V, AllocError>
     where
@@ -341,7 +341,7 @@ impl<V> Pairs<V> {
         Ok(self.value_mut(position))
     }
 
-    /// Replaces the last value. Changes nothing if there is no entry.
+    /// Replaces the last value, if there is one.
     pub fn override_last(&mut self, value: V)
     where
         V: Drop,
@@ -353,8 +353,7 @@ impl<V> Pairs<V> {
         }
     }
 
-    /// Removes the entry at a position, and returns it. The others keep their order. Takes no
-    /// memory.
+    /// Removes and returns the entry at a position. The others keep their order. Allocates nothing.
     pub fn remove_at(&mut self, position: usize) -> (Key, V)
         requires { position < length self.old }
         ensures entry { slice_get self.old position ≡ Some result }
@@ -366,8 +365,8 @@ impl<V> Pairs<V> {
         }
     }
 
-    /// Removes the entry of a key, and returns its value, or `None` if the key is missing. The
-    /// other entries keep their order. Takes no memory.
+    /// Removes the entry of a key, and returns its value, or `None` if it is missing. The others
+    /// keep their order. Allocates nothing.
     #[tactic(auto, using(crate::proofs::Entries::PairPositions::places))]
     pub fn remove(&mut self, name: &str) -> Option<V>
         ensures value { result ≡ find name.now self.old }
@@ -378,8 +377,8 @@ impl<V> Pairs<V> {
         Some(value)
     }
 
-    /// Keeps the entries for which `keep` returns `true`, in their order. `keep` is called once for
-    /// each entry, in order, and may change the value. Takes no memory.
+    /// Keeps the entries for which `keep` returns `true`, in their order. It is called once for
+    /// each, in order, and may change the value. Allocates nothing.
     pub fn retain<F: FnMut(&str, &mut V) -> bool>(&mut self, keep: F)
     where
         V: Drop,
@@ -392,7 +391,7 @@ impl<V> Pairs<V> {
         }
     }
 
-    /// Removes all entries. The box and its room are kept.
+    /// Removes all entries. The box and its capacity are kept.
     pub fn clear(&mut self)
     where
         V: Drop,

@@ -16,8 +16,8 @@ use std::marker::Model;
 /// The most bytes that a `Short` holds.
 pub const MAX_LEN: usize = 30;
 
-/// A string of at most `MAX_LEN` bytes of UTF-8, stored in the value itself, so that it allocates
-/// nothing. `Short::from_slice(short.as_str())` is a copy.
+/// A string of at most `MAX_LEN` bytes, 30, stored in the value itself.
+/// `Short::from_slice(short.as_str())` makes a copy.
 #[derive(Drop)]
 pub struct Short {
     text: ArrayString<MAX_LEN>,
@@ -39,8 +39,8 @@ impl Short {
         Short { text }
     }
 
-    /// A copy of the string, with which `wide` begins: from there, if `wide` can be cut after
-    /// `MAX_LEN` bytes, it is copied faster than by `from_slice` (`inline::front_of`).
+    /// A copy of `slice`, a prefix of `wide`, which must have a character boundary at `MAX_LEN`.
+    /// Faster than `from_slice`: `MAX_LEN` bytes of `wide` are copied, without a call, then cut.
     #[doc(hidden)]
     #[inline(always)]
     pub fn from_wide(slice: &str, wide: &str) -> Short
@@ -53,7 +53,7 @@ impl Short {
         Short { text }
     }
 
-    /// A copy, with its unused bytes. Unlike `from_slice`, it calls no function that copies bytes.
+    /// A copy of all `MAX_LEN` bytes, used or not: a fixed number is copied without a call.
     #[doc(hidden)]
     #[inline(always)]
     pub fn copy_fields(&self) -> Short
@@ -62,7 +62,7 @@ impl Short {
         Short { text: self.text }
     }
 
-    /// The string. The clauses `short` and `utf8` say to proofs what is true of each `Short`.
+    /// The string. (`short` and `utf8`, true of each `Short`, are for callers' proofs.)
     pub fn as_str(&self) -> &str
         ensures text { result.now ≡ self.now }
         ensures short { length self.now ≤ MAX_LEN }
@@ -108,7 +108,7 @@ impl fmt::Debug for Short {
     }
 }
 
-/// The bare string. Widths and other flags are ignored.
+/// The string without quotes. Format flags are ignored.
 impl fmt::Display for Short {
     ghost output = { λ s. Some s };
 

@@ -1,4 +1,4 @@
-//! What the crates share: the write loop, the text of a number, escapes, and runs of plain bytes.
+//! What the crates share: the write loop, numbers as text, escapes, and bytes that need none.
 
 ghost use Rattle.std.specs.Prelude.{OnOk, OnErr};
 ghost use Rattle.std.specs.Io.KnownBytes.{Appends};
@@ -10,8 +10,9 @@ pub mod escapes;
 pub mod plain;
 pub mod print_dec;
 
-/// Writes all bytes. Each error of the writer is returned, also `Interrupted`; a write of 0 bytes
-/// is `WriteZero`. After an error a prefix of the bytes is written. Doesn't flush.
+/// Writes all bytes, and doesn't flush. Any error of the writer is returned, even `Interrupted`, at
+/// which std's `write_all` goes on, and `WriteZero` if it takes 0 bytes. Then a prefix of the bytes
+/// has been written.
 pub fn write_bytes<W: Write>(writer: &mut W, bytes: &[u8]) -> io::Result<()>
     ensures ok { OnOk result (Appends (W.contents writer.old) (W.contents writer.new) bytes.now) }
     ensures err { OnErr result

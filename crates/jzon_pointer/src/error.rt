@@ -1,7 +1,8 @@
-//! Errors of all that stands beside `jzon`, in one form: what went wrong, and where.
+//! Errors of all that stands beside `jzon`, in one form: what went wrong, and where. `error_text`
+//! of specs/Errors.antt is what an error prints.
 //!
-//! `error_text` of specs/Errors.antt is what an error prints, `what_of` and the words beside it what it
-//! says, and `short` its law: no message is longer than 1,000 bytes.
+//! An error of a value, a pointer or a patch has a report. One of a text, of memory, or of a NaN
+//! for which memory lacks, has none, and calls that would change it leave it as it is (`Becomes`).
 
 ghost use Rattle.std.specs.Prelude.{◌≡◌, ◌⊎◌, ◌∷◌, ◌++◌, [], true, None, Some, option_map, string_bytes};
 ghost use Rattle.std.specs.Fmt.{decimal};
@@ -31,16 +32,16 @@ use words::{show_member, show_operation, show_position};
 /// Why a call fails, and where: `/servers/1/port: expected an integer from 0 to 65535, found "80" at
 /// (4:14)`, or ``operation 3: `from`: /a/b: /a has no key "b"``.
 ///
-/// Its message is one line of at most 1,000 bytes, whatever a stranger sent: characters that aren't
-/// seen, or turn the line, are escaped as in JSON, and long texts are cut, with `..`. It owns what it
-/// names, so `?` keeps everything. An error for which there is no memory becomes `Error::MEMORY`.
+/// Its message is one line of at most 1,000 bytes: characters that aren't seen, end a line or turn its
+/// direction are escaped as in JSON, and long texts are cut, with `..`. It owns what it names, so `?`
+/// keeps everything. An error for which there is no memory becomes `Error::MEMORY`.
 #[derive(Clone, PartialEq, Eq, Drop)]
 pub struct Error {
     inner: Inner,
 }
 
 /// A text's error is as `jzon` returns it, so that `?` needs no allocator. What others say is in a box,
-/// so that a success moves little. That of a NaN is told apart even if there is no memory for the box.
+/// so that a success moves little.
 #[derive(Clone, PartialEq, Eq, Drop)]
 enum Inner {
     Memory,
@@ -49,7 +50,8 @@ enum Inner {
     Boxed(Box<Report>),
 }
 
-/// What an error says of a value, a pointer or a patch.
+/// What an error says of a value, a pointer or a patch. `operation` counts from 0, and `member` is
+/// the part of it that has the pointer.
 #[derive(Clone, PartialEq, Eq, Drop)]
 struct Report {
     what: What,
@@ -78,7 +80,7 @@ pub enum What {
     NotANumber,
     /// What a program says in its own words.
     Said(&'static str),
-    /// The same, in words that it made.
+    /// What a program says in words that it made.
     Custom(String),
 }
 
@@ -88,7 +90,7 @@ impl Error {
         inner: Inner::Memory,
     };
 
-    /// The error of what went wrong, of the whole value.
+    /// The error of what went wrong with the whole value, whose pointer is empty.
     #[cold]
     pub fn new(alloc: Global, what: What) -> Error
         ensures { SaysOrMemory result (Some what) [] None None None }
@@ -96,8 +98,8 @@ impl Error {
         Error::boxed(alloc, what, String::new(alloc))
     }
 
-    /// The error of a NaN, of the whole value. `is_not_a_number` says so even where memory lacks for the
-    /// rest: then it has no `what`, and stays as it is, as `Error::MEMORY` does.
+    /// The error of a NaN, of the whole value. If memory lacks for its report, only
+    /// `is_not_a_number` tells it apart.
     #[cold]
     pub fn not_a_number(alloc: Global) -> Error
         ensures error { (result ≡ not_a_number) ⊎ Says result (Some what.NotANumber) [] None None None }
@@ -123,7 +125,7 @@ impl Error {
         }
     }
 
-    /// What went wrong and where, in a box.
+    /// The report of what went wrong at a pointer.
     fn boxed(alloc: Global, what: What, pointer: String) -> Error
         ensures { SaysOrMemory result (Some what) (string_bytes pointer) None None None }
     {
@@ -142,7 +144,8 @@ impl Error {
         }
     }
 
-    /// The error of an object, of which the entry with this key has this error.
+    /// The error of an object whose entry with this key has this error: `/` and the key, with `~0`
+    /// for `~` and `~1` for `/`, come before the pointer.
     #[cold]
     pub fn below_key(self, alloc: Global, key: &str) -> Error
         ensures { BecomesOrMemory self result (what_of self) (47 ∷ escaped key.now ++ pointer_of self)
@@ -154,7 +157,8 @@ impl Error {
         }
     }
 
-    /// The error of an array, of which the element at this index has this error.
+    /// The error of an array whose element at this index has this error: `/` and the index come
+    /// before the pointer.
     #[cold]
     pub fn below_index(self, alloc: Global, index: usize) -> Error
         ensures { BecomesOrMemory self result (what_of self) (47 ∷ decimal index ++ pointer_of self)
@@ -167,8 +171,7 @@ impl Error {
     }
 
     /// The error in operation `number` of a patch, from 0, and of its member if the pointer is that
-    /// member's. The error of a text or of a failed allocation stays as it is (`Becomes`), as it
-    /// does in `at_place` and `without_value`.
+    /// member's.
     pub fn in_operation(mut self, number: usize, member: Option<Member>) -> Error
         ensures { Becomes self result (what_of self) (pointer_of self) (Some number) member
             (place_of self) }
@@ -214,7 +217,7 @@ impl Error {
         self
     }
 
-    /// Whether an allocation failed. Such an error has no pointer, operation or place.
+    /// Whether an allocation failed.
     pub fn is_memory(&self) -> bool
         ensures { result ≡ is_memory self.now }
     {
@@ -232,8 +235,7 @@ impl Error {
         }
     }
 
-    /// What went wrong with a value, a pointer or a patch. `None` if a text is rejected, or if an
-    /// allocation failed, even if that was to report a NaN, as `is_not_a_number` still does.
+    /// What went wrong with a value, a pointer or a patch. `None` without a report.
     ///
     /// ```rust
     /// Err(error) if matches!(error.what(), Some(What::Pointer(_))) => Ok(None),
@@ -247,8 +249,8 @@ impl Error {
         }
     }
 
-    /// The pointer from the value that was read or changed: empty for the whole value, and where no
-    /// value has the error.
+    /// The pointer from the value that was read or changed: empty for the whole value, and of an error
+    /// without a report.
     pub fn pointer(&self) -> &str
         ensures { result.now ≡ pointer_of self.now }
     {
@@ -258,7 +260,7 @@ impl Error {
         }
     }
 
-    /// The number of the patch's operation, from 0.
+    /// The number of the patch's operation, from 0. `None` for any other error.
     pub fn operation(&self) -> Option<usize>
         ensures { result ≡ operation_of self.now }
     {
@@ -313,7 +315,8 @@ impl Error {
         Words { error: self }
     }
 
-    /// The line and the column: of the place, or of the text's own error.
+    /// The line and the column, from 1: of the place, or else of the text's own error, if that has
+    /// them.
     fn position(&self) -> Option<(usize, usize)>
         ensures { result ≡ position_of (text_of self.now) (place_of self.now) }
     {
@@ -347,13 +350,12 @@ impl Error {
     }
 }
 
-/// No message of an error is longer than 1,000 bytes. It does nothing: the law is its contract, as of
-/// `jzon::laws`.
+/// No message of an error is longer than 1,000 bytes. It does nothing: the law is its contract.
 pub fn short()
     ensures { ShortLaw }
 {}
 
-/// One line: the operation, the pointer, the words, and the place. Flags are ignored.
+/// One line: the operation, its member, the pointer, the words, and the place. Flags are ignored.
 impl fmt::Display for Error {
     ghost output = { λ e. Some (error_text e) };
 
@@ -366,7 +368,7 @@ impl fmt::Display for Error {
     }
 }
 
-/// As `Display`, so that it is as short and as safe.
+/// As `Display`: as short and as safe.
 impl fmt::Debug for Error {
     fn fmt<W: fmt::Write>(&self, f: &mut fmt::Formatter<W>) -> fmt::Result {
         write!(f, "{self}")
@@ -375,7 +377,7 @@ impl fmt::Debug for Error {
 
 impl std::error::Error for Error {}
 
-/// So that `?` works on what parses a text with its place.
+/// So that `?` works on what parses a text with its place. `OutOfMemory` becomes `MEMORY`.
 impl From<LocatedError> for Error {
     ghost from_gives = { λ l e. e ≡ located_error l };
 
@@ -392,7 +394,7 @@ impl From<LocatedError> for Error {
     }
 }
 
-/// So that `?` works on a call of `jzon`.
+/// So that `?` works on a call of `jzon`: an error without a place.
 impl From<jzon::Error> for Error {
     ghost from_gives = { λ e f. f ≡ located_error (record { error = e; place = None }) };
 
@@ -401,7 +403,6 @@ impl From<jzon::Error> for Error {
     }
 }
 
-/// So that `?` after a call of std returns `Error::MEMORY`.
 impl From<AllocError> for Error {
     ghost from_gives = { λ _ e. e ≡ memory };
 
@@ -410,7 +411,7 @@ impl From<AllocError> for Error {
     }
 }
 
-/// What was to be stored, and came back with the error, is dropped.
+/// What was to be stored is dropped.
 impl<T: Drop> From<AllocFailed<T>> for Error {
     ghost from_gives = { λ _ e. e ≡ memory };
 

@@ -1,10 +1,12 @@
 //! Where in a text the value stands that a JSON pointer names.
 //!
-//! The text is walked once, without a tree: what the pointer passes by is skipped by its brackets and
-//! quotes alone. `pointed` of specs/Locate.antt says which value of the text that is.
+//! The text is walked once, without a tree: what the pointer passes by is skipped by its brackets
+//! and quotes alone. `pointed` of specs/Locate.antt says which value that is; of a text that the
+//! reading rejects, any offset is right. An *item* is an element, or an entry's value. Tokens and
+//! levels count from 0.
 //!
-//! `Walk::find`, `find_element`, `find_member` and `pass_entry` call one another, `find` each time
-//! for the next token; proofs/locate/Walk/+walk says what gets smaller: the number of tokens left.
+//! The methods of the cycle `walk` call one another; proofs/locate/Walk/+walk says what gets
+//! smaller: the number of tokens left.
 
 ghost use Rattle.std.specs.Prelude.{◌≡◌, ◌<◌, ◌≤◌, ◌+◌, ◌∷◌, ◌++◌, [], List, ℕ, drop, length, chars, false, true, IfErr, IfOk, IfSome, IsOk, Ok, map, None, option_map, Some, slice_index, take};
 ghost use Rattle.std.specs.List.{prefix_len};
@@ -25,15 +27,14 @@ use std::simd::prelude::*;
 /// How many bytes are compared at once.
 const LANES: usize = 16;
 
-/// No index has more digits.
+/// A `usize` has no more digits.
 const INDEX_DIGITS: usize = 20;
 
-/// Where a value stands.
+/// Where a value stands, as byte offsets.
 #[derive(Clone, Copy)]
 struct Spot {
-    /// The offset of the opening quote of its key, or of the value itself if it has none.
+    /// That of the opening quote of its key, or of the value itself if it has none.
     name: usize,
-    /// The offset of the value.
     value: usize,
 }
 
@@ -42,8 +43,8 @@ struct Spot {
 struct Passed {
     /// The value inside it that the tokens name.
     found: Option<Spot>,
-    /// The offset of the comma or the bracket after the value. `None` where keys are unique: nothing
-    /// is looked for after a value that a token names.
+    /// The offset of the comma or bracket after the value, or `None` after a named one if keys are
+    /// unique.
     end: Option<usize>,
 }
 
@@ -68,15 +69,14 @@ struct Walk<'a> {
     unique: bool,
 }
 
-/// The place of the value that a pointer names in a text that the reading accepts: of a repeated key
-/// the last one counts. `None` if it names none. Of a text that the reading rejects, it may be any
-/// place or none.
+/// The place of the value that a pointer names in a text that the reading accepts: of a repeated
+/// key the last one counts. `None` if it names none. Of a text that the reading rejects, it may be
+/// any place or none.
 ///
-/// Takes time for the length of the text and of the pointer, whatever they hold; by a strict reading,
-/// which accepts no repeated key, the text is read only up to the place. Memory is taken for the
-/// pointer's tokens, and for one key with an escape at a time: the only error is `OutOfMemory`, and
-/// none if the pointer is empty or begins with no slash. By `meant` the value is the one that
-/// `jzon_pointer::find` returns.
+/// Takes time in proportion to text and pointer; a strict reading, which accepts no repeated key,
+/// ends at the place. Memory is taken for the pointer's tokens, and for one key with an escape at a
+/// time: the only error is `OutOfMemory`, and none if the pointer is empty or begins with no slash.
+/// By `meant` the value is the one that `jzon_pointer::find` returns.
 ///
 /// `/a/1` in `{"a": [1, true]}` is at offset 10, in line 1 and column 11.
 #[tactic(auto, using(crate::proofs::LocateMeaning::is_meant))]
@@ -99,8 +99,9 @@ pub fn value_in(
     }
 }
 
-/// The place of the key of the entry that a pointer names, and of an element the element's own. All
-/// else is as with `value_in`.
+/// The place of the opening quote of the key of the entry that a pointer names, of a repeated key
+/// the last one; of an element or the whole value, its own. `None`, time and errors are as with
+/// `value_in`.
 pub fn key_in(
     alloc: Global,
     text: &str,
@@ -119,7 +120,7 @@ pub fn key_in(
     }
 }
 
-/// Where the value stands that a pointer names.
+/// Where the value and its key stand that a pointer names, or `None` if it names none.
 fn spot_in(
     alloc: Global,
     text: &str,
@@ -203,7 +204,7 @@ impl Walk<'_> {
         })
     }
 
-    /// The same of an array.
+    /// Walks over the array at a spot, by the tokens from number `level` on.
     #[cycle(walk)]
     fn find_element(&self, spot: Spot, level: usize) -> jzon::Result<Passed>
         requires level { level < length self.now.tokens.items }
@@ -237,7 +238,8 @@ impl Walk<'_> {
         })
     }
 
-    /// The same of an object, to the last of its entries whose key the token names.
+    /// Walks over the object at a spot, by the tokens from number `level` on: into the last of its
+    /// entries whose key the first of them names.
     #[cycle(walk)]
     fn find_member(&self, spot: Spot, level: usize) -> jzon::Result<Passed>
         requires level { level < length self.now.tokens.items }
@@ -271,8 +273,8 @@ impl Walk<'_> {
         })
     }
 
-    /// Walks over the entry whose key begins at `name`. What was `found` before stays, unless the
-    /// token names the key: then what is inside the value counts, even if that is nothing.
+    /// Walks over the entry whose key's quote is at `name`. What was `found` before stays, unless
+    /// token `level` names the key: then what is inside the value counts, even if that is nothing.
     #[cycle(walk)]
     fn pass_entry(
         &self,
@@ -307,8 +309,9 @@ impl Walk<'_> {
         })
     }
 
-    /// The offset of the comma or the bracket after what is inside this many brackets from an offset
-    /// on, unless keys are unique.
+    /// The offset of the comma or the closing bracket after an item of which `brackets` are open at
+    /// `start` (`item_end`). `None` where keys are unique: no later key can be the same, so nothing
+    /// after the value is looked for.
     fn end_after(&self, start: usize, brackets: usize) -> Option<usize>
         requires within { start ≤ length self.now.text.now }
         requires one { brackets ≤ 1 }
@@ -321,7 +324,9 @@ impl Walk<'_> {
     }
 }
 
-/// The offset of the element that a token names, of the array whose bracket ends at an offset.
+/// The offset of the element that a token names, of the array whose bracket is before `start`.
+/// `None` if the token is no index, or the array or the text ends before. (`byte_at` is 0 at the
+/// text's end. The 0 of `item_end`: none of an element's brackets is open at its start.)
 fn element_at(bytes: &[u8], start: usize, token: &str) -> Option<usize>
     requires { start ≤ length bytes.now }
     ensures element { ReadsElement bytes.now start token.now result }
@@ -342,7 +347,8 @@ fn element_at(bytes: &[u8], start: usize, token: &str) -> Option<usize>
     }
 }
 
-/// The index that a token names. A longer token isn't looked at, since it may be met in each array.
+/// The index that a token names. One of more than `INDEX_DIGITS` bytes names none, and isn't read:
+/// under a repeated key many arrays may be tested for the same token.
 #[tactic(auto, using(crate::proofs::LocateIndex::long_token))]
 fn index_in(token: &str) -> Option<usize>
     ensures { result ≡ index_named token.now }
@@ -353,7 +359,7 @@ fn index_in(token: &str) -> Option<usize>
     index_of(token)
 }
 
-/// The entry whose key begins at an offset.
+/// The entry whose key begins at an offset, or `None` if none does, as in `{}`.
 fn entry_at(bytes: &[u8], name: usize) -> Option<Entry>
     requires { name ≤ length bytes.now }
     ensures entry { ReadsEntry bytes.now name result }
@@ -389,7 +395,7 @@ fn is_key(alloc: Global, text: &str, start: usize, end: usize, token: &str) -> j
     Ok(is_plain_key(quoted, token))
 }
 
-/// Whether a token names the key whose string has no backslash.
+/// Whether a token names the key in these quotes, which has no backslash.
 fn is_plain_key(quoted: &str, token: &str) -> bool
     ensures { (key : List ℕ) → quoted.now ≡ 34 ∷ (key ++ 34 ∷ []) → result ≡ names token.now key }
 {
@@ -402,7 +408,8 @@ fn is_plain_key(quoted: &str, token: &str) -> bool
     }
 }
 
-/// Whether a token names the key that a string of JSON means.
+/// Whether a token names the key that a string of JSON means. Each reading reads a string as
+/// `parse` does. If it is no string, no reading accepts the text, and any answer is right.
 fn is_escaped_key(alloc: Global, quoted: &str, token: &str) -> jzon::Result<bool>
     ensures names { IfOk result (NamesQuoted quoted.now token.now) }
     ensures memory { IfErr result (λ e. e ≡ OutOfMemory) }
@@ -421,7 +428,6 @@ fn is_escaped_key(alloc: Global, quoted: &str, token: &str) -> jzon::Result<bool
     }
 }
 
-/// Whether an allocation failed.
 fn is_memory(error: &Error) -> bool
     ensures test { result ≡ is_memory error.now }
     ensures error { result ≡ true → error.now ≡ OutOfMemory }
@@ -451,11 +457,12 @@ fn whitespace_end(bytes: &[u8], start: usize) -> usize
     if start < bytes.len() && bytes[start] > b' ' {
         return start;
     }
-    // In a text that a reading accepts, a byte up to the space that is outside of strings is whitespace.
+    // In a text that a reading accepts, a byte up to the space, outside of strings, is whitespace.
     run_end(bytes, start, 0, b' ' + 1)
 }
 
-/// The offset after the digits at an offset. Numbers may be long, and have no byte that counts here.
+/// The offset after the digits at an offset. Numbers may be long, and have no quote, comma or
+/// bracket.
 fn digits_end(bytes: &[u8], start: usize) -> usize
     requires { start ≤ length bytes.now }
     ensures skims { (d : ℕ) → skim (Outside d) (drop result bytes.now) ≡ skim (Outside d) (drop start bytes.now) }
@@ -466,8 +473,8 @@ fn digits_end(bytes: &[u8], start: usize) -> usize
     run_end(bytes, start, b'0', 10)
 }
 
-/// The offset after the bytes at an offset that are below `bound` after `^ turn`. Many are compared
-/// at once.
+/// The offset after the bytes from `start` on whose xor with `turn` is below `bound`. Many are
+/// compared at once.
 #[inline(never)]
 fn run_end(bytes: &[u8], start: usize, turn: u8, bound: u8) -> usize
     requires { start ≤ length bytes.now }
@@ -484,7 +491,7 @@ fn run_end(bytes: &[u8], start: usize, turn: u8, bound: u8) -> usize
     at + run_by_bytes(&bytes[at..], turn, bound)
 }
 
-/// How many bytes at the start are below `bound` after `^ turn`, byte by byte.
+/// How many bytes at the start have an xor with `turn` below `bound`, byte by byte.
 fn run_by_bytes(bytes: &[u8], turn: u8, bound: u8) -> usize
     ensures { result ≡ prefix_len (is_below turn bound) bytes.now }
 {
@@ -494,7 +501,8 @@ fn run_by_bytes(bytes: &[u8], turn: u8, bound: u8) -> usize
         .count()
 }
 
-/// The same of the `LANES` bytes at an offset.
+/// How many of the `LANES` bytes at `start`, up to the first other, have an xor with `turn` below
+/// `bound`. Bit `i` of the mask is of byte `i`.
 #[inline(always)]
 fn run_in_lanes(bytes: &[u8], start: usize, turn: u8, bound: u8) -> usize
     requires { start + LANES ≤ length bytes.now }
@@ -510,7 +518,7 @@ fn run_in_lanes(bytes: &[u8], start: usize, turn: u8, bound: u8) -> usize
     }
 }
 
-/// The offset after the string whose opening quote ends at an offset, or that of the end.
+/// The offset after the string whose opening quote is before `start`, or that of the text's end.
 fn string_end(bytes: &[u8], start: usize) -> usize
     requires { start ≤ length bytes.now }
     ensures rest { drop result bytes.now ≡ after_string (drop start bytes.now) }
@@ -543,8 +551,8 @@ fn plain_end(bytes: &[u8], at: usize) -> usize
     at + plain_len(&bytes[at..])
 }
 
-/// The offset of the comma or the closing bracket after the item of an array or an object, of which
-/// at an offset this many brackets are open, or that of the end.
+/// The offset of the comma or the closing bracket after an item of which `brackets` are open at
+/// `start`, or that of the text's end.
 fn item_end(bytes: &[u8], start: usize, brackets: usize) -> usize
     requires within { start ≤ length bytes.now }
     requires one { brackets ≤ 1 }

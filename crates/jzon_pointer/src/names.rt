@@ -1,4 +1,4 @@
-//! Names among others.
+//! The test of keys for typed reading and redaction.
 
 ghost use Rattle.std.specs.Prelude.{◌≡◌, map};
 ghost use Rattle.jzon_pointer.specs.Names.{is_among};

@@ -1,5 +1,5 @@
-//! JSON pointers (RFC 6901): reading, and changing in place, the value that a text such as `/a/0`
-//! names.
+//! JSON pointers (RFC 6901): the value that a text such as `/a/0` names, and the empty text the
+//! whole one.
 //!
 //! `value_at` of specs/Pointer.antt says which value that is, or which token names nothing.
 
@@ -73,7 +73,7 @@ impl fmt::Display for Primitive {
 }
 
 /// What a message calls the value in which the token that begins at `start` names nothing: the
-/// pointer up to the slash before this token, or words for the empty one.
+/// pointer up to the slash before this token, or `the whole value` for the empty one.
 pub(crate) fn parent(pointer: &str, start: usize) -> &str
     ensures { result.now ≡ parent_text pointer.now start }
 {
@@ -92,8 +92,8 @@ pub(crate) fn token(pointer: &str, start: usize, end: usize) -> &str
     parts(from_start, end.saturating_sub(start)).0
 }
 
-/// The text before a position, and the text from there. The whole text and nothing if a character
-/// doesn't begin there, as in another pointer than that of the error.
+/// The text before a byte offset, and the text from there. The whole text and nothing if no
+/// character begins there, as in another pointer than the error's.
 fn parts(text: &str, at: usize) -> (&str, &str)
     ensures before { result.0.now ≡ before at text.now }
     ensures behind { result.1.now ≡ behind at text.now }
@@ -104,7 +104,7 @@ fn parts(text: &str, at: usize) -> (&str, &str)
     }
 }
 
-/// The value that a pointer names.
+/// The value that a pointer names, if it names one.
 ///
 /// ```rust
 /// let port = jzon_pointer::get(&config, "/servers/0/port");
@@ -134,7 +134,8 @@ pub fn find<'a>(alloc: Global, value: &'a JsonValue, path: &str) -> Result<&'a J
     }
 }
 
-/// The same without an allocation: the error doesn't own the pointer.
+/// The value that a pointer names, or why it names none: an error that owns no pointer, so that no
+/// allocator is needed.
 #[tactic(auto, using(crate::proofs::PlaceSteps::placing))]
 pub fn seek<'a>(value: &'a JsonValue, path: &str) -> Result<&'a JsonValue, PointerError>
     ensures found { IfOk result (λ v. value_at (view value.now) path.now ≡ Ok (view v.now)) }
@@ -181,7 +182,7 @@ pub fn push_token(pointer: &mut String, key: &str) -> Result<(), AllocError>
     pointer.push_str(token.as_str())
 }
 
-/// Why a token names nothing, if it does.
+/// Why a token names nothing, of one that does: first for a wrong escape.
 #[tactic(auto, using(crate::proofs::PlaceSteps::placing))]
 fn why_missing(value: &JsonValue, token: &str) -> Reason
     ensures { result ≡ reason_of (view value.now) token.now }
@@ -202,7 +203,7 @@ fn why_missing(value: &JsonValue, token: &str) -> Reason
     }
 }
 
-/// The entry's value or the element that a token names.
+/// The entry's value or the element that a token names, if it names one.
 #[tactic(auto, using(crate::proofs::PlaceSteps::placing))]
 fn child<'a>(value: &'a JsonValue, token: &str) -> Option<&'a JsonValue>
     ensures { option_map (λ v. view v.now) result ≡ child_of (view value.now) token.now }

@@ -1,5 +1,7 @@
-//! Texts of an error, for a person: one line, whatever a stranger sent, and no longer than a few
-//! hundred characters of each text.
+//! Texts of an error, for a person, in one line: escaped as in a string of JSON, also the
+//! *hidden* characters, which aren't seen, end a line, or turn the direction of what follows
+//! (`\uXXXX`; above U+FFFF two of these, for surrogates). Where bytes bound the characters shown,
+//! each counts as wide as the widest.
 
 ghost use Rattle.std.specs.Prelude.{◌≡◌, ◌<◌, ◌≤◌, ◌-◌, ◌^◌, Some, chars, false, length, map, min, nat_le, true, ◌&&◌};
 ghost use Rattle.std.specs.Char.{digit_char};
@@ -10,9 +12,8 @@ ghost use Rattle.jzon_pointer.specs.Shown.{byte_text, cut_text, escape_text, fit
 use jzon::{Error, LocatedError};
 use std::fmt;
 
-/// A pointer in a message: characters that aren't seen, or turn the line, are escaped as in JSON,
-/// and if it takes more than 200 bytes so, the middle is left out, with `..`: the first and the last 100
-/// characters are shown, or as many as take 100 bytes if each were as wide as the widest.
+/// A pointer in a message: escaped, and if it takes more than 200 bytes so, its beginning and its
+/// end, of at most 100 bytes each, with `..` between them.
 ///
 /// ```rust
 /// let shown = format!(in alloc; "{}", ShownPointer(path))?;
@@ -28,8 +29,7 @@ impl fmt::Display for ShownPointer<'_> {
     }
 }
 
-/// A token or a key in a message: escaped as a pointer is, and after 40 characters, or as many as
-/// take 240 bytes if each were as wide as the widest, `..`.
+/// A token or a key in a message: escaped, and after 40 characters, or 240 bytes, `..`.
 #[derive(Clone, Copy)]
 pub struct ShownToken<'a>(pub &'a str);
 
@@ -43,7 +43,7 @@ impl fmt::Display for ShownToken<'_> {
 }
 
 /// The words of a program in a message: as they are, or, if there are more than 200 bytes or a
-/// character isn't seen, escaped as a pointer is, and after at most 200 bytes `..`.
+/// character is hidden, escaped, and after at most 200 bytes `..`.
 #[derive(Clone, Copy)]
 pub struct ShownWords<'a>(pub &'a str);
 
@@ -58,27 +58,28 @@ impl fmt::Display for ShownWords<'_> {
     }
 }
 
-/// Whether a text has at most 200 bytes, and each character is seen.
+/// Whether a text has at most 200 bytes, and no hidden character.
 fn is_line(text: &str) -> bool
     ensures { result ≡ (nat_le (length text.now) 200 && list_all is_seen (chars text.now)) }
 {
     text.len() <= 200 && are_seen(text)
 }
 
-/// Whether each character of a text is seen.
+/// Whether no character of a text is hidden.
 fn are_seen(text: &str) -> bool
     ensures { result ≡ list_all is_seen (chars text.now) }
 {
     text.chars().all(|ch| is_seen(ch))
 }
 
+/// Whether a character isn't hidden.
 fn is_seen(ch: char) -> bool
     ensures { result ≡ is_seen ch }
 {
     !is_hidden(ch) && !is_hidden_pair(ch)
 }
 
-/// A pointer, as `ShownPointer` shows it.
+/// A pointer, escaped, and cut in the middle if it takes more than 200 bytes.
 pub fn show_pointer<W: fmt::Write>(f: &mut fmt::Formatter<W>, pointer: &str) -> fmt::Result
     ensures { WritesOnOk W.write_str_gives f.old result (pointer_shown pointer.now) f.new }
 {
@@ -98,7 +99,7 @@ fn widest(text: &str) -> usize
     most
 }
 
-/// How many bytes a character takes where it is shown.
+/// How many bytes a character takes where it is shown: `\uXXXX` has 6.
 fn width(ch: char) -> usize
     ensures { result ≡ length (shown_char ch) }
 {
@@ -111,7 +112,8 @@ fn width(ch: char) -> usize
 }
 
 /// A text, escaped; of one that takes more than `most` bytes so, its first `front` and its last
-/// `back` characters, with dots between them. `most` is bounded because `shown_len` saturates.
+/// `back` characters, with dots between them. `most` is bounded because `shown_len` saturates, and
+/// `front` because `show_cut` asks for that.
 fn show_fitting<W: fmt::Write>(
     f: &mut fmt::Formatter<W>,
     text: &str,
@@ -209,7 +211,7 @@ pub fn show_place<W: fmt::Write>(f: &mut fmt::Formatter<W>, pointer: &str) -> fm
     f.write_str(": ")
 }
 
-/// The text without quotes, escaped.
+/// A text without quotes, escaped, and not cut.
 pub fn show_text<W: fmt::Write>(f: &mut fmt::Formatter<W>, text: &str) -> fmt::Result
     ensures { WritesOnOk W.write_str_gives f.old result (shown_text text.now) f.new }
 {
@@ -235,7 +237,7 @@ pub(crate) fn show_char<W: fmt::Write>(f: &mut fmt::Formatter<W>, ch: char) -> f
     }
 }
 
-/// Whether a character is shown by its escape, since it turns the line, or isn't seen.
+/// Whether a character up to U+FFFF is hidden.
 pub fn is_hidden(ch: char) -> bool
     ensures hidden { result ≡ is_hidden ch }
     ensures small { result ≡ true → ch < 65536 }
@@ -250,7 +252,7 @@ pub fn is_hidden(ch: char) -> bool
     }
 }
 
-/// Whether a character above U+FFFF isn't seen: a format control of hieroglyphs, of shorthand or of
+/// Whether a character above U+FFFF is hidden: a format control of hieroglyphs, of shorthand or of
 /// music, a tag, a variation selector, or one of U+E0000 to U+E0FFF that is unassigned.
 fn is_hidden_pair(ch: char) -> bool
     ensures hidden { result ≡ is_hidden_pair ch }
@@ -277,7 +279,7 @@ fn show_pair<W: fmt::Write>(f: &mut fmt::Formatter<W>, code: u32) -> fmt::Result
     show_escape(f, 0xdc00 + code % 1024)
 }
 
-/// The escape of a character below U+10000.
+/// `\uXXXX` of a character below U+10000, or of a surrogate.
 fn show_escape<W: fmt::Write>(f: &mut fmt::Formatter<W>, code: u32) -> fmt::Result
     requires { code < 65536 }
     ensures { WritesOnOk W.write_str_gives f.old result (escape_text code) f.new }
@@ -296,6 +298,7 @@ fn show_byte<W: fmt::Write>(f: &mut fmt::Formatter<W>, byte: u32) -> fmt::Result
     f.write_char(hex_digit(byte % 16))
 }
 
+/// In lower case; the `'0'` is never taken.
 fn hex_digit(digit: u32) -> char
     requires { digit < 16 }
     ensures { result ≡ digit_char digit }
@@ -303,7 +306,7 @@ fn hex_digit(digit: u32) -> char
     char::from_digit(digit, 16).unwrap_or('0')
 }
 
-/// Names of a program: the first eight, with commas between them, and `..` for others.
+/// Names of a program: the first eight, with commas between them, and `..` for others; or `none`.
 pub fn show_names<W: fmt::Write>(f: &mut fmt::Formatter<W>, names: &[&str]) -> fmt::Result
     ensures { WritesOnOk W.write_str_gives f.old result
         (names_text (map (λ n. n.now) names.now)) f.new }
@@ -319,7 +322,7 @@ pub fn show_names<W: fmt::Write>(f: &mut fmt::Formatter<W>, names: &[&str]) -> f
     f.write_str(", ..")
 }
 
-/// Each name after a comma.
+/// `, ` and the name, for each.
 fn show_others<W: fmt::Write>(f: &mut fmt::Formatter<W>, names: &[&str]) -> fmt::Result
     ensures { WritesOnOk W.write_str_gives f.old result
         (others_text (map (λ n. n.now) names.now)) f.new }
@@ -330,7 +333,7 @@ fn show_others<W: fmt::Write>(f: &mut fmt::Formatter<W>, names: &[&str]) -> fmt:
     Ok(())
 }
 
-/// A known key, of which at most 40 bytes are shown.
+/// A name of a program, escaped, and after at most 40 bytes `..`.
 #[derive(Clone, Copy)]
 struct ShownName<'a>(&'a str);
 

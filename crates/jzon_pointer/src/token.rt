@@ -1,9 +1,10 @@
 //! The reference tokens of a pointer's text (RFC 6901, sections 3 and 4).
 //!
-//! A token is kept as it is written. Where it has no `~`, it is the key itself, and the object's index
-//! finds it. A token with an escape is compared with each key of an object of at most `FEW`; for a
-//! larger one it is decoded: on the stack, so that nothing is allocated, or, to a key of more than
-//! `DECODED_MAX` bytes, in memory of the object's allocator.
+//! A token is kept as it is written. `position_of` and those below it find the entry that it names.
+//! Where it has no `~`, it is the key itself, and the object's index finds it. A token with an
+//! escape is compared with each key of an object of at most `FEW`; for a larger one it is decoded:
+//! on the stack, so that nothing is allocated, or, to a key of more than `DECODED_MAX` bytes, in
+//! memory of the object's allocator.
 
 ghost use Rattle.std.specs.Prelude.{◌≡◌, ◌&&◌, ◌==◌, ◌<◌, ◌≤◌, ◌+◌, ◌∷◌, ◌++◌, nat_lt, suc, true, false, if◌then◌else◌, MatchOption, OnOk, OnErr, length, drop, slice_index, option_map, option_and_then, IfOk, IfErr, IfSome, string_bytes, None, Some};
 ghost use Rattle.std.specs.Char.{is_ascii_digit};
@@ -22,13 +23,13 @@ use jzon::JsonValue;
 use jzon::object::Object;
 use std::alloc::{AllocError, Global};
 
-/// Among so few keys, a token with an escape is compared with each: that takes less than to decode it.
+/// Comparing with so few keys takes less than decoding.
 const FEW: usize = 16;
 
-/// The longest key to which a token is decoded on the stack.
+/// The longest key, in bytes, to which a token is decoded on the stack.
 const DECODED_MAX: usize = 512;
 
-/// The text after a pointer's first slash: none of the empty pointer.
+/// The text after a pointer's first slash: `None` of the empty pointer, which has no token.
 pub fn after_slash(path: &str) -> Result<Option<&str>, PointerError>
     ensures tokens { IfOk result (λ left. tokens_of path.now
         ≡ Some (tokens_left (option_copied left))) }
@@ -57,7 +58,7 @@ pub fn first_token(text: &str) -> (&str, Option<&str>)
     }
 }
 
-/// The index that a token names: digits, with no zero before others.
+/// The index that a token names: digits, with no zero before others, that fit a `usize`.
 #[tactic(auto, using(crate::proofs::PointerSteps::index_read))]
 pub fn index_of(token: &str) -> Option<usize>
     ensures { result ≡ index_named token.now }
@@ -68,8 +69,8 @@ pub fn index_of(token: &str) -> Option<usize>
     token.parse().ok()
 }
 
-/// Whether a token has the form of an index (RFC 6901, section 4): digits, with no zero before
-/// others. It may be too large for a `usize`.
+/// Whether a token is an index (RFC 6901, section 4), maybe too large for a `usize`: digits, with
+/// no zero before others.
 pub fn has_index_form(token: &str) -> bool
     ensures { result ≡ is_index token.now }
 {
@@ -77,7 +78,6 @@ pub fn has_index_form(token: &str) -> bool
     !bytes.is_empty() && all_digits(bytes) && !has_leading_zero(bytes)
 }
 
-/// Whether each byte is a digit.
 fn all_digits(token: &[u8]) -> bool
     ensures { result ≡ list_all is_ascii_digit token.now }
 {
@@ -113,14 +113,15 @@ pub fn position_of(object: &Object, token: &str) -> Option<usize>
     position_decoded(object, token)
 }
 
-/// The same, by a comparison with each key.
+/// `position_of`, by a comparison with each key.
 fn position_compared(object: &Object, token: &str) -> Option<usize>
     ensures { result ≡ position (names token.now) (keys_of (entries_of object.now)) }
 {
     object.keys().position(|key| is_name(token, key))
 }
 
-/// The same of a token with an escape. Not inlined, so that only it has room for the key.
+/// `position_of`, of a token with an escape in a larger object. Not inlined, so that only it has
+/// room for the key.
 #[inline(never)]
 fn position_decoded(object: &Object, token: &str) -> Option<usize>
     ensures { result ≡ position (names token.now) (keys_of (entries_of object.now)) }
@@ -132,8 +133,8 @@ fn position_decoded(object: &Object, token: &str) -> Option<usize>
     }
 }
 
-/// The same of a token whose key is longer than `DECODED_MAX`: it is decoded in memory of the
-/// object's allocator, or, if that is refused, compared with each key.
+/// `position_of`, of a token whose key is longer than `DECODED_MAX`. If memory for it is refused,
+/// it is compared with each key.
 fn position_of_long(object: &Object, token: &str) -> Option<usize>
     ensures { result ≡ position (names token.now) (keys_of (entries_of object.now)) }
 {
@@ -144,7 +145,8 @@ fn position_of_long(object: &Object, token: &str) -> Option<usize>
     }
 }
 
-/// The key that a token names, or `None` if it doesn't fit; inside, `None` for a bad escape.
+/// The key that a token names. The outer `None`: it is longer than `DECODED_MAX`; the inner: a
+/// wrong escape.
 fn decoded(token: &str) -> Option<Option<ArrayString<DECODED_MAX>>>
     ensures { IfSome result (λ key. option_map (λ k. k.bytes) key ≡ token_key token.now) }
 {
@@ -174,7 +176,7 @@ fn decoded(token: &str) -> Option<Option<ArrayString<DECODED_MAX>>>
     Some(Some(key))
 }
 
-/// Appends a text, if it fits.
+/// Appends a text; false if it doesn't fit.
 fn push(key: &mut ArrayString<DECODED_MAX>, text: &str) -> bool
     ensures { result ≡ true → key.new.bytes ≡ key.old.bytes ++ text.now }
 {
@@ -188,7 +190,7 @@ pub fn is_plain(token: &str) -> bool
     !token.contains('~')
 }
 
-/// Whether a token names this key.
+/// Whether a token names this key, byte by byte. One with a wrong escape names none.
 pub fn is_name(token: &str, key: &str) -> bool
     ensures { result ≡ names token.now key.now }
 {
@@ -224,7 +226,8 @@ pub fn is_well_escaped(token: &str) -> bool
     true
 }
 
-/// The byte that stands at a position of a token, by itself or by an escape, and the next position.
+/// The byte that stands at a position of a token, by itself or by an escape, and the next position;
+/// `None` at a wrong escape.
 fn unescaped_at(token: &[u8], at: usize) -> Option<(u8, usize)>
     requires { at < length token.now }
     ensures bad { result ≡ None → token_key (drop at token.now) ≡ None }
@@ -267,7 +270,8 @@ pub fn key_of(alloc: Global, token: &str) -> Result<Option<String>, AllocError>
     Ok(Some(key))
 }
 
-/// Appends the token of a key: `~0` for each `~`, and `~1` for each `/`.
+/// Appends the token of a key: `~0` for each `~`, and `~1` for each `/`. After an error, maybe a
+/// part.
 pub fn push_escaped(text: &mut String, key: &str) -> Result<(), AllocError>
     ensures { OnOk result (string_bytes text.new ≡ string_bytes text.old ++ escaped key.now) }
 {

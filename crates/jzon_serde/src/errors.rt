@@ -1,4 +1,4 @@
-//! What is wrong at a place of a value that is read.
+//! What is wrong where a reader stands: in `frame`, of which `begun` members were begun, before `due`.
 
 use crate::fault::{Fault, Part};
 use crate::tree::{Container, Due, Frame, TreeFormat, case_bit};
@@ -9,7 +9,7 @@ use std::alloc::{AllocError, Global};
 use std::result::Result;
 
 impl<'v> TreeFormat<'v> {
-    /// The container around one, unless that is the whole.
+    /// The frame around one: `None` of the whole.
     fn around(&self, frame: &Frame<'v>) -> Option<&Frame<'v>> {
         self.frames.get(frame.level.checked_sub(1)?)
     }
@@ -32,7 +32,7 @@ impl<'v> TreeFormat<'v> {
         }
     }
 
-    /// What is wrong with a part of the member that was begun last.
+    /// The fault of a part of the member that was begun last, with the indexes that lead there.
     #[cold]
     pub(crate) fn fault(&self, part: Part, what: Result<What, AllocError>) -> Fault {
         let mut indexes = Vec::new(self.alloc);
@@ -66,7 +66,7 @@ impl<'v> TreeFormat<'v> {
         self.fault(Part::Value, what)
     }
 
-    /// As `expected`, of the key at hand if there is one.
+    /// The error of the key at hand, else of the value begun last.
     #[cold]
     pub(crate) fn unfit(&self, words: &'static str) -> Fault {
         let expected = Expected::Other(words);
@@ -78,14 +78,13 @@ impl<'v> TreeFormat<'v> {
         self.fault(Part::Key, what)
     }
 
-    /// A reader that was written by hand takes steps that don't fit.
+    /// A hand-written reader takes steps that don't fit.
     #[cold]
     pub(crate) fn misused(&self) -> Fault {
         self.custom("the type's reader asks for what isn't there")
     }
 
-    /// How a field of the object that ended last is spelled in each case of its names, if that is
-    /// one way.
+    /// The key of a field of the object that ended last, if the cases of its names spell it one way.
     pub(crate) fn key_of(&self, name: &str) -> Result<Option<String>, AllocError> {
         let mut key: Option<String> = None;
         if !self.is_spelled_here() {
@@ -105,8 +104,8 @@ impl<'v> TreeFormat<'v> {
         Ok(key)
     }
 
-    /// Keeps for `unknown_variant` the error that none of the variants' names is there, as a string
-    /// or as a key. A type may have a variant for that.
+    /// Keeps for `unknown_variant` the error that a string (nothing is due then) or a key names no
+    /// variant: a type may have one for that.
     #[cold]
     pub(crate) fn note_variants(&mut self, names: &[Name<'_>]) {
         let part = match self.due {
@@ -118,7 +117,6 @@ impl<'v> TreeFormat<'v> {
     }
 }
 
-/// Each way to spell a name.
 const CASES: &[Case] = &[
     Case::AsIs,
     Case::Lower,
@@ -131,10 +129,10 @@ const CASES: &[Case] = &[
     Case::ScreamingKebab,
 ];
 
-/// How many bytes of names an error has, about: no more are shown.
+/// About how many bytes of names an error shows.
 const NAMES_ROOM: usize = 200;
 
-/// The words for the names, as they are spelled in JSON.
+/// `expected one of a, b`, as JSON spells the names.
 fn one_of(alloc: Global, names: &[Name<'_>]) -> Result<String, AllocError> {
     let mut words = String::new(alloc);
     let mut before = "expected one of ";
@@ -149,7 +147,7 @@ fn one_of(alloc: Global, names: &[Name<'_>]) -> Result<String, AllocError> {
     Ok(words)
 }
 
-/// The member that was begun last.
+/// The member that was begun last, of one or more.
 fn begun_last<'v>(frame: &Frame<'v>) -> Option<&'v JsonValue> {
     let at = frame.begun.saturating_sub(1);
     match frame.container {

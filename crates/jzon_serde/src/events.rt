@@ -1,5 +1,5 @@
-//! A `Serializer` of `serde`: which event may come, and what it means. A `Sink` makes a value or a
-//! text of it.
+//! A `Serializer` of `serde`: which event (value, key, begin, end) may come, and what it means. A
+//! `Sink` makes a value or a text of it.
 
 ghost use Rattle.std.specs.Prelude.{◌≤◌, length, OnOk};
 
@@ -14,7 +14,7 @@ use std::cell::Cell;
 use std::fmt::{Display, Write};
 use std::result::Result;
 
-/// How many containers may be open: as many as in a text that `parse` reads.
+/// How many containers may be open, with empty ones, which `parse` doesn't count.
 pub(crate) const MAX_DEPTH: usize = 512;
 
 /// A value that has no parts and is no string.
@@ -44,7 +44,7 @@ pub(crate) trait Sink {
     fn close(&mut self, is_map: bool) -> Result<(), Fault>;
 }
 
-/// What may come next in the innermost container.
+/// What may come next in the innermost container; for an element or a key, its end too.
 #[derive(Clone, Copy, PartialEq, Eq)]
 enum Due {
     Whole,
@@ -54,11 +54,11 @@ enum Due {
     EntryValue,
 }
 
-/// A container that is open.
+/// An open container.
 #[derive(Clone, Copy)]
 struct Level {
     due: Due,
-    /// How many maps are open in it whose entries go into it.
+    /// How many flattened maps are open in it, whose entries go into it.
     flat: usize,
 }
 
@@ -66,9 +66,10 @@ struct Level {
 pub(crate) struct Events<S: Sink + Drop> {
     alloc: Global,
     pub(crate) sink: S,
+    /// The containers around `level`, the innermost.
     around: Vec<Level>,
     level: Level,
-    /// Room for a name in another case, and for a printed text.
+    /// A buffer for a name in another case, and for a printed text.
     room: String,
     /// The next value is an entry's key.
     at_key: bool,
@@ -79,7 +80,6 @@ pub(crate) struct Events<S: Sink + Drop> {
 }
 
 impl<S: Sink + Drop> Events<S> {
-    /// Before the first event: the whole value is due.
     pub(crate) fn new(alloc: Global, sink: S) -> Events<S> {
         Events {
             alloc,
@@ -104,7 +104,7 @@ impl<S: Sink + Drop> Events<S> {
         Err(self.refused("no whole value is written"))
     }
 
-    /// A value comes next that is no key.
+    /// A value that is no key comes, if one is due; sets what is due then.
     #[inline(always)]
     fn begin_value(&mut self) -> Result<(), Fault> {
         if self.flattens {
@@ -156,7 +156,7 @@ impl<S: Sink + Drop> Events<S> {
         }
     }
 
-    /// The shortest digits that are read back as the same float, as a number or a key.
+    /// The shortest digits that are read back as this float, as a number or key; not NaN or infinity.
     fn put_float<F: ryu::Float>(&mut self, v: F) -> Result<(), Fault> {
         let mut buffer = ryu::Buffer::new();
         let text = buffer.format(v);
@@ -167,7 +167,7 @@ impl<S: Sink + Drop> Events<S> {
         }
     }
 
-    /// A name, as a key or as a string.
+    /// A name in this case, as a key or string.
     #[inline(always)]
     fn put_name(&mut self, kind: NameKind, name: &str, case: Case, key: bool) -> Result<(), Fault> {
         if let Case::AsIs = case {
@@ -178,14 +178,14 @@ impl<S: Sink + Drop> Events<S> {
         self.put_room(room, key)
     }
 
-    /// Takes the room, cleared, until `put_room`.
+    /// Takes the buffer, cleared, until `put_room`.
     fn cleared_room(&mut self) -> String {
         let mut room = std::mem::replace(&mut self.room, String::new(self.alloc));
         room.clear();
         room
     }
 
-    /// The text in the room, which is kept for the next.
+    /// Writes the buffer's text and puts it back.
     fn put_room(&mut self, room: String, is_key: bool) -> Result<(), Fault> {
         let done = self.put_text(room.as_str(), is_key);
         self.room = room;
@@ -209,7 +209,7 @@ impl<S: Sink + Drop> Events<S> {
         self.sink.open(is_map)
     }
 
-    /// Closes the innermost container, which must be of this kind, with no value due after a key.
+    /// Closes the innermost container, of this kind, with no value due after a key.
     fn close(&mut self, is_map: bool) -> Result<(), Fault> {
         let due = if is_map { Due::Key } else { Due::Element };
         if self.level.due != due {
@@ -228,7 +228,7 @@ impl<S: Sink + Drop> Events<S> {
         self.fault(Ok(What::Said(words)))
     }
 
-    /// What is wrong with the whole value.
+    /// An error of writing, with no pointer.
     fn fault(&self, what: Result<What, AllocError>) -> Fault {
         Fault::new(self.alloc, what, Vec::new(self.alloc), Part::Value)
     }
@@ -266,7 +266,7 @@ impl<S: Sink + Drop> Serializer for Events<S> {
         self.put_float(v)
     }
 
-    /// After the words of `Exact` it is the decimal itself.
+    /// The decimal of an `Exact`, if `custom` kept one.
     fn f64(&mut self, v: f64) -> Result<(), Fault> {
         match self.exact.take() {
             Some(number) => self.put_integer(&number, Some(number)),
@@ -304,11 +304,14 @@ impl<S: Sink + Drop> Serializer for Events<S> {
         self.put(Scalar::Null)
     }
 
+    /// A variant without data.
     fn str_cased(&mut self, name: &str, case: Case) -> Result<(), Fault> {
         self.put_name(NameKind::Variant, name, case, self.at_key)
     }
 
-    /// After the words of `Exact` and `begin_key` it is the decimal itself, which is no key.
+    /// A list, or, if `custom` has kept a decimal of an `Exact`, that: `send_number` calls `begin_key`
+    /// and this, which fails in all other formats. Here the decimal is written as a value, and neither
+    /// `end_seq` nor `end_key` follows.
     fn begin_seq(&mut self, _len: Option<usize>) -> Result<(), Fault> {
         if let Some(number) = self.exact.take() {
             self.at_key = false;
@@ -343,6 +346,7 @@ impl<S: Sink + Drop> Serializer for Events<S> {
         self.close(true)
     }
 
+    /// A field's name.
     fn key_cased(&mut self, name: &str, case: Case) -> Result<(), Fault> {
         self.put_name(NameKind::Field, name, case, true)
     }
@@ -352,6 +356,7 @@ impl<S: Sink + Drop> Serializer for Events<S> {
         self.put_name(NameKind::Variant, name, case, true)
     }
 
+    /// Up to `end_key` comes a key of any type.
     fn begin_key(&mut self) -> Result<(), Fault> {
         self.at_key = true;
         Ok(())
@@ -367,9 +372,8 @@ impl<S: Sink + Drop> Serializer for Events<S> {
         Ok(())
     }
 
-    /// What the type's own writer says. Words that begin with `EXACT` are no error: in them
-    /// `send_number` passes the number of an `Exact`, which is kept for the next event, and drops
-    /// what is returned.
+    /// What the type's own writer says. Words that begin with `EXACT` are no error, but the number of
+    /// an `Exact`, kept for the next event: `send_number` drops what is returned.
     fn custom(&self, message: &str) -> Fault {
         if let Some(digits) = message.strip_prefix(EXACT) {
             self.exact.set(number_of(digits));
@@ -379,7 +383,7 @@ impl<S: Sink + Drop> Serializer for Events<S> {
         self.fault(words.map(What::Custom))
     }
 
-    /// A printed text, as a string or as a key.
+    /// A printed text, as a string or key.
     fn collect_str<T: Display>(&mut self, printed: &T) -> Result<(), Fault> {
         let mut room = self.cleared_room();
         write!(room, "{printed}").map_err(|_refused| Fault::MEMORY)?;

@@ -1,4 +1,4 @@
-//! An error of a step, until it has its place in a text.
+//! An error of a step, until it has its pointer, and place in a text.
 
 ghost use Rattle.jzon_serde.specs.Errors.{IsOfValue, IsOfValueIn};
 
@@ -9,19 +9,19 @@ use std::alloc::{AllocError, AllocFailed, Global};
 use std::fmt::Write;
 use std::result::Result;
 
-/// Why a step failed. It is one word, so that a step that succeeds moves none of it.
+/// Why a step failed. It is one pointer, so that a step that succeeds moves none of it.
 #[derive(Clone, Drop)]
 pub(crate) struct Fault {
     // `None` if an allocation failed.
     wrong: Option<Box<Wrong>>,
 }
 
-/// What is wrong, and with which part of which member of the value that is read. The keys to it may
-/// be long, so they aren't here: a type may drop many errors, and read the value in another way.
+/// What is wrong, and with which part of which member of the value. The keys to it may be long, so they
+/// aren't here: a type may drop many errors.
 #[derive(Clone, Drop)]
 struct Wrong {
     what: What,
-    /// The member's index in its container, from the outermost on.
+    /// The way to the member: its index in each container, outermost first.
     indexes: Vec<usize>,
     part: Part,
 }
@@ -31,7 +31,7 @@ struct Wrong {
 pub(crate) enum Part {
     Value,
     Key,
-    /// Not the member is wrong, but what contains it.
+    /// Not the member, but its container.
     Container,
     /// It lacks the entry of this key.
     Missing(String),
@@ -40,7 +40,7 @@ pub(crate) enum Part {
 impl Fault {
     pub(crate) const MEMORY: Fault = Fault { wrong: None };
 
-    /// A fault that says this, or that memory lacks.
+    /// A fault that says this, or `MEMORY` if it couldn't be made.
     #[cold]
     pub(crate) fn new(
         alloc: Global,
@@ -64,7 +64,8 @@ impl Fault {
         self.wrong.is_none()
     }
 
-    /// The error with its place in the text that the value was read from.
+    /// The error with its place in the text that the value was read from: of a wrong key the key's,
+    /// else as `Error::in_text` finds it. Without a place if memory runs out meanwhile.
     #[cold]
     pub(crate) fn in_text(
         self,
@@ -80,7 +81,7 @@ impl Fault {
         if !is_of_key {
             return error.in_text(alloc, text, reading);
         }
-        // `Error::in_text` would place the value.
+        // `Error::in_text` would give the place of the key's value.
         match locate::key_in(alloc, text, error.pointer(), reading) {
             Ok(place) => error.at_place(place),
             Err(_refused) => error,
@@ -103,7 +104,7 @@ impl Fault {
 }
 
 impl Wrong {
-    /// The pointer from the value.
+    /// The JSON Pointer to the member.
     fn pointer(&self, alloc: Global, whole: &JsonValue) -> Result<String, AllocError> {
         let mut pointer = String::new(alloc);
         let mut value = Some(whole);
@@ -136,7 +137,7 @@ impl From<AllocError> for Fault {
     }
 }
 
-/// What was to be stored, and came back with the error, is dropped.
+/// What was to be stored is dropped.
 impl<T: Drop> From<AllocFailed<T>> for Fault {
     fn from(_refused: AllocFailed<T>) -> Fault {
         Fault::MEMORY

@@ -1,4 +1,7 @@
-//! The steps of a reader over a value.
+//! `serde`'s `Format` over a value: its methods are steps of a type's reader (`_input` is empty). A
+//! step reads what is `due`: a value, or a map's key, whose text may spell a number or boolean. `asked`
+//! is what a type asked of it before. `expected` and `unfit` are errors, `unfit` of a key if just that
+//! was read. A `frame` is a container, of which `begun` members were begun.
 
 use crate::fault::{Fault, Part};
 use crate::number::whole;
@@ -11,7 +14,8 @@ use std::alloc::Global;
 use std::result::Result;
 
 impl<'v> TreeFormat<'v> {
-    /// A number as an integer, unless digits of it may have been cut.
+    /// The integer of the number due (1e2 is 100). Fails for a fraction, above 64 bits, or if digits
+    /// may have been cut; `expected` words the error.
     #[inline(never)]
     fn integer(&mut self, expected: &'static str) -> Result<i128, Fault> {
         let Some(number) = self.look()?.as_number() else {
@@ -35,8 +39,8 @@ impl<'v> TreeFormat<'v> {
         u64::try_from(integer).map_err(|_| self.expected(Expected::Other(UNSIGNED)))
     }
 
-    /// The integer of a key, which std has parsed, if the key is plain: so two keys of an object
-    /// aren't one of a map.
+    /// The integer of a key, if std parsed it and it is plain: or `7` and `07` would be one key of a
+    /// map. One out of range is an error of its own.
     fn integer_key<T: Drop>(
         &mut self,
         key: &str,
@@ -53,7 +57,7 @@ impl<'v> TreeFormat<'v> {
         }
     }
 
-    /// The float nearest to a number, or to the number that a key spells.
+    /// The float nearest to the number due, or that a key spells; infinite above its range.
     fn float<F: fast_float::FastFloat>(&mut self) -> Result<F, Fault> {
         if let Some(key) = self.key() {
             return fast_float::parse::<F, _>(key).map_err(|_| self.unfit("a number"));
@@ -68,8 +72,7 @@ impl<'v> TreeFormat<'v> {
         }
     }
 
-    /// The bytes that the numbers of an array are. No array is as long as the loop's bound, by
-    /// which the loop is proved to end.
+    /// The bytes that an array's numbers are. The loop's bound, which no array reaches, proves its end.
     fn bytes_of_items(&mut self, alloc: Global) -> Result<Vec<u8>, Fault> {
         self.begin_seq(&[])?;
         let mut bytes = Vec::new(alloc);
@@ -83,7 +86,7 @@ impl<'v> TreeFormat<'v> {
         Err(Fault::MEMORY)
     }
 
-    /// Fails unless the object that was begun has one entry, as that of a variant and its data has.
+    /// Fails unless the object that was begun has one entry: a variant and its data.
     #[inline(never)]
     fn single_entry(&mut self) -> Result<(), Fault> {
         match self.frame.container {
@@ -107,7 +110,7 @@ const WIDE: Expected = Expected::Other("an integer of at most 64 bits");
 
 const FLOAT: &str = "a number in a float's range";
 
-/// Whether the names are those of variants.
+/// Whether the names, all of one kind, are those of variants.
 #[inline(always)]
 fn is_of_variants(names: &[Name<'_>]) -> bool {
     let first = names.first();
@@ -123,7 +126,7 @@ fn is_plain(key: &str) -> bool {
     }
 }
 
-/// Whether a text is an integer's, and plain.
+/// Whether a text is a plain integer, of any length.
 fn is_integer(key: &str) -> bool {
     is_plain(key) && key.bytes().skip(1).all(|byte| byte.is_ascii_digit())
 }
@@ -151,6 +154,7 @@ impl<'v> Format for TreeFormat<'v> {
             self.due = Due::Nothing;
             return Ok(integer);
         }
+        // As 1e2, or an error.
         i64::try_from(self.integer(SIGNED)?).map_err(|_| self.invalid())
     }
 
@@ -163,9 +167,11 @@ impl<'v> Format for TreeFormat<'v> {
             self.due = Due::Nothing;
             return Ok(integer);
         }
+        // As 1e2, or an error.
         self.unsigned()
     }
 
+    /// Within 64 bits, but a key in full.
     fn i128(&mut self, _input: &[u8]) -> Result<i128, Fault> {
         match self.key() {
             Some(key) => self.integer_key(key, key.parse().ok(), SIGNED),
@@ -196,7 +202,7 @@ impl<'v> Format for TreeFormat<'v> {
             .map_err(|_| self.unfit("one character"))
     }
 
-    /// A value's strings don't stand in one input.
+    /// `serde` asks for a slice of the input: a value's strings stand in none.
     fn plain_str(&mut self, _input: &[u8]) -> Result<(usize, usize), Fault> {
         Err(self.custom("nothing is borrowed from a value: take a `String`"))
     }
@@ -210,7 +216,7 @@ impl<'v> Format for TreeFormat<'v> {
         Ok(String::from_str(alloc, self.text()?)?)
     }
 
-    /// A string's bytes, an array of numbers, or the text of a number, by which `Exact` takes it.
+    /// A string's bytes, an array's numbers, or a number's text, by which `Exact` takes it.
     fn byte_buf(&mut self, alloc: Global, _input: &[u8]) -> Result<Vec<u8>, Fault> {
         let due = self.due;
         match due {
@@ -225,8 +231,8 @@ impl<'v> Format for TreeFormat<'v> {
         }
     }
 
-    /// A number with an exponent is a float. So are `-0`, which would lose its sign as an integer,
-    /// and what is below `i64::MIN`.
+    /// The kind due: a key is a string, NaN a null, and a number with an exponent a float, as are `-0`,
+    /// which would lose its sign, and numbers below `i64::MIN`. An error after it isn't the key's.
     fn peek(&mut self, _input: &[u8]) -> Result<Kind, Fault> {
         if let Due::Key(_, _) = self.due {
             return Ok(Kind::Str);
@@ -248,7 +254,7 @@ impl<'v> Format for TreeFormat<'v> {
         }
     }
 
-    /// As `take_none`; if not taken, `invalid` expects null.
+    /// For `()`: as `take_none`; `false` makes `invalid` expect null.
     #[inline(always)]
     fn take_unit(&mut self, input: &[u8]) -> Result<bool, Fault> {
         let is_taken = self.take_none(input)?;
@@ -258,8 +264,7 @@ impl<'v> Format for TreeFormat<'v> {
         Ok(is_taken)
     }
 
-    /// Passes over null, if it is due. A NaN, which only a program makes, is printed and read as
-    /// null.
+    /// For `Option`: passes over null (`true`), or a NaN, which is printed as null.
     #[inline(always)]
     fn take_none(&mut self, _input: &[u8]) -> Result<bool, Fault> {
         if let Due::Key(_, _) = self.due {
@@ -269,7 +274,7 @@ impl<'v> Format for TreeFormat<'v> {
             JsonValue::Null => {}
             JsonValue::Number(number) if number.is_nan() => {}
             _ => {
-                // The value is read next: an error is no longer its key's.
+                // An error is no longer the key's.
                 self.key = None;
                 return Ok(false);
             }
@@ -286,7 +291,7 @@ impl<'v> Format for TreeFormat<'v> {
         }
     }
 
-    /// Goes to the next element, unless one is still due, or leaves the array at its end.
+    /// Goes to the next element (`true`), unless one is still due, or leaves the array (`false`).
     #[inline(always)]
     fn next_item(&mut self, _input: &[u8]) -> Result<bool, Fault> {
         let Container::Seq(items) = self.frame.container else {
@@ -308,7 +313,7 @@ impl<'v> Format for TreeFormat<'v> {
     fn begin_map(&mut self, _input: &[u8]) -> Result<(), Fault> {
         match self.look()? {
             JsonValue::Object(object) => self.enter(Container::Map(object)),
-            // An enum asks first of which kind the value is, as it takes a string too.
+            // An enum, which takes a string too, asks for the kind first.
             value if self.asked == Asked::Kind && value.as_str().is_none() => {
                 Err(self.expected(Expected::Other("a string or an object")))
             }
@@ -334,7 +339,9 @@ impl<'v> Format for TreeFormat<'v> {
         }
     }
 
-    /// Which name the next key is, or `usize::MAX`. At the end `missing` needs the names' spelling.
+    /// The index of the next key in `names`, `usize::MAX` for another; `None` after the last. Variants'
+    /// names are for an object of one entry; the error of another key is kept for `unknown_variant`,
+    /// the names' cases for `missing`.
     #[inline(always)]
     fn next_key(&mut self, _input: &[u8], names: &[Name<'_>]) -> Result<Option<usize>, Fault> {
         if is_of_variants(names) {
@@ -352,7 +359,7 @@ impl<'v> Format for TreeFormat<'v> {
         Ok(Some(at))
     }
 
-    /// Goes to the next key, which is read as a value.
+    /// Goes to the next entry (`false`: none): its key is due, then its value.
     fn next_entry(&mut self, _input: &[u8]) -> Result<bool, Fault> {
         let Some((key, value)) = self.entry()? else {
             return Ok(false);
@@ -361,6 +368,8 @@ impl<'v> Format for TreeFormat<'v> {
         Ok(true)
     }
 
+    /// The index of a string or key in `names`; for none of them `usize::MAX`, and the error is kept
+    /// for `unknown_variant`.
     fn variant(&mut self, _input: &[u8], names: &[Name<'_>]) -> Result<usize, Fault> {
         let at = find(names, self.text()?);
         if at == usize::MAX {
@@ -369,6 +378,7 @@ impl<'v> Format for TreeFormat<'v> {
         Ok(at)
     }
 
+    /// Passes over the value that is due, or the key.
     #[inline(always)]
     fn skip(&mut self, _input: &[u8]) -> Result<(), Fault> {
         match self.due {
@@ -379,7 +389,7 @@ impl<'v> Format for TreeFormat<'v> {
         Ok(())
     }
 
-    /// Until `release`, `leave` keeps the frames that there are now, so that `rewind` finds them.
+    /// A place to `rewind` to. Until `release`, `leave` keeps the frames that there are now.
     fn mark(&mut self) -> Mark<'v> {
         let mark = Mark {
             frame: self.frame,
@@ -407,19 +417,20 @@ impl<'v> Format for TreeFormat<'v> {
         self.kept = mark.kept;
         self.frames.truncate(self.frame.level.max(mark.kept));
         if self.key.is_none() && !matches!(self.due, Due::Nothing) {
-            // Nothing was read: no form fitted, or only a tag was looked up, by its own spelling.
+            // Back at the mark: no variant of an untagged enum fitted (`Forms`), or just the entry that
+            // names the variant was read, whose spelling isn't the fields'.
             self.asked = Asked::Forms;
             self.spelling = mark.spelling;
         }
     }
 
+    /// If so, an untagged enum tries no other variant.
     fn is_fatal(&self, error: &Fault) -> bool {
         error.is_memory()
     }
 
-    /// The error of the entry that the field `name` would be read from. Its key isn't known if the
-    /// names are spelled in several ways, or if the struct was read from an array: then the field
-    /// is named.
+    /// The error that a field's key is missing. It isn't known if the names are in several cases, or an
+    /// array was read: then the field is named.
     #[cold]
     fn missing(&self, name: &str) -> Fault {
         let Ok(key) = self.key_of(name) else {
@@ -440,7 +451,7 @@ impl<'v> Format for TreeFormat<'v> {
         self.fault(Part::Key, Ok(What::Said("unknown key")))
     }
 
-    /// The error that `note_variants` kept, if it kept one.
+    /// The error that `next_key` or `variant` kept.
     #[cold]
     fn unknown_variant(&self) -> Fault {
         match &self.unknown {
@@ -449,8 +460,8 @@ impl<'v> Format for TreeFormat<'v> {
         }
     }
 
-    /// The error of an array of another length than the type's. If an element is due, it is the
-    /// first after a tuple's last part, which tells the length; else the array was read to its end.
+    /// If an element is due, it is the first too many: the type has one less than were begun. Else the
+    /// array was read to its end.
     #[cold]
     fn wrong_len(&self) -> Fault {
         let (Container::Seq(items), Due::Value(_)) = (self.frame.container, self.due) else {
@@ -461,8 +472,8 @@ impl<'v> Format for TreeFormat<'v> {
         self.fault(Part::Container, Ok(What::Wrong { expected, found }))
     }
 
-    /// A key or a value that is none of the type's. If no value was read, `asked` tells what is
-    /// expected; a number that was read is out of the type's range.
+    /// What is none of the type's. Before a value is read, `asked` tells what is expected; a number
+    /// that was read is out of range.
     #[cold]
     fn invalid(&self) -> Fault {
         let words = match (self.key_at_hand(), self.due, self.asked) {

@@ -1,7 +1,7 @@
 //! Types of `serde` read from JSON, and written as JSON, by its derives.
 //!
-//! Reading goes over a value (`tree`, `format`), writing sends the events of `Serialize` to a sink
-//! (`events`, `sinks`). docs/SERDE.md has examples.
+//! Reading goes over a value (`tree`, `format`); writing sends the calls of `Serialize`, its events, to
+//! a sink, which makes a value or a text (`events`, `sinks`). docs/SERDE.md has examples.
 #![tactic(auto)]
 
 ghost use Rattle.std.specs.Prelude.{◌≡◌, chars, Err, IfErr, IsOk, None};
@@ -34,10 +34,10 @@ use std::{io, str};
 use tree::TreeFormat;
 pub use wrappers::{Exact, Json};
 
-/// How much room a text has at first, so that a small one needs one allocation.
+/// The bytes reserved for a text at first: a small one needs one allocation.
 const FIRST_ROOM: usize = 1024;
 
-/// Reads a type of `serde` from a value. An error has a pointer and no place.
+/// Reads a type of `serde` from a value. An error has a JSON Pointer and no place.
 ///
 /// ```rust
 /// let back: T = from_value(alloc, &value)?;
@@ -49,7 +49,7 @@ pub fn from_value<T: DeserializeOwned>(alloc: Global, value: &JsonValue) -> Resu
 }
 
 /// Reads a type of `serde` from a text, strictly and exactly: a repeated key, and a number that would
-/// be cut, are errors. The error of a wrong value has its place in the text.
+/// lose digits, are errors. The error of a wrong value has its line and column.
 ///
 /// The clauses: a text that such a reading rejects is never read, and its error is that reading's. An
 /// error about a value comes only of a text that is accepted, and its place, if it has one, is in it.
@@ -64,7 +64,7 @@ pub fn from_str<T: DeserializeOwned>(alloc: Global, text: &str) -> Result<T, Err
     from_str_as(alloc, text, &Reading::LOSSLESS)
 }
 
-/// As `from_str`, by a reading of your choice.
+/// As `from_str`, by a reading of your choice: how strict, exact and deep.
 pub fn from_str_as<T: DeserializeOwned>(
     alloc: Global,
     text: &str,
@@ -89,8 +89,8 @@ pub fn from_slice<T: DeserializeOwned>(alloc: Global, bytes: &[u8]) -> Result<T,
     }
 }
 
-/// The value that a type of `serde` is written as. Of a key that is written twice, as by a
-/// flattened struct, the last value counts.
+/// The value that a type of `serde` is written as. Of a key written twice, as by a flattened struct,
+/// the last value counts. NaN, infinity, integers above 64 bits and over 512 open containers fail.
 ///
 /// ```rust
 /// let mut value: JsonValue = jzon_serde::to_value(alloc, &order)?;
@@ -104,7 +104,7 @@ pub fn to_value<T: Serialize>(alloc: Global, source: &T) -> Result<JsonValue, Er
 }
 
 /// The compact text of a type of `serde`: that of `to_value`'s `dump`, without the value. A key that
-/// is written twice is twice in the text.
+/// is written twice is twice in it.
 ///
 /// ```rust
 /// let text = to_string(alloc, &read)?;
@@ -140,8 +140,7 @@ pub fn to_writer<W: Write, T: Serialize>(alloc: Global, out: &mut W, source: &T)
     }
 }
 
-/// Reads a type from the whole of a value. The `Deserializer` gets no input: the format looks at
-/// the value alone.
+/// Reads a type from the whole of a value; the `Deserializer`'s input is empty.
 fn read<T: DeserializeOwned>(alloc: Global, value: &JsonValue) -> Result<T, Fault> {
     let mut tree = TreeFormat::new(alloc, value);
     let read = T::deserialize_owned(alloc, &mut Deserializer::new(&[], &mut tree))?;
@@ -149,7 +148,7 @@ fn read<T: DeserializeOwned>(alloc: Global, value: &JsonValue) -> Result<T, Faul
     Ok(read)
 }
 
-/// What a sink made of a type, and whether that is all of it.
+/// The sink after the events of `source`, and `Ok` if they were one whole value.
 fn written<T: Serialize, S: Sink + Drop>(
     alloc: Global,
     source: &T,

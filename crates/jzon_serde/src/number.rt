@@ -7,8 +7,8 @@ ghost use Rattle.jzon_serde.specs.Numbers.{Means, MeansWith};
 use jzon::number::Number;
 use jzon_base::digits::read_digits;
 
-/// The integer that a number is, however it is written: 100, 1e2 and 100.0 are the same. `None` if
-/// it has a fraction, or more than 64 bits.
+/// The integer that a number is, however it is written: 100, 1e2 and 100.0 are the same. `None` if it
+/// is NaN, has a fraction, or more than 64 bits.
 #[tactic(auto, using(crate::proofs::Whole::unsigned_whole, crate::proofs::Whole::opposite_whole))]
 pub(crate) fn whole(number: Number) -> Option<i128>
     ensures { IfSome result (λ n. exact_fixed_point number 0 ≡ Some n) }
@@ -22,7 +22,8 @@ pub(crate) fn whole(number: Number) -> Option<i128>
     }
 }
 
-/// The number that a text in JSON's form means, if a `Number` holds all of its digits.
+/// The number that a decimal's text means. `None` of another text (`NaN`), or if a `Number` can't hold
+/// its digits.
 pub(crate) fn number_of(text: &str) -> Option<Number>
     ensures { IfSome result (Means text.now) }
 {
@@ -32,7 +33,7 @@ pub(crate) fn number_of(text: &str) -> Option<Number>
     }
 }
 
-/// The number of this sign, and of a text without one.
+/// The number of this sign, and of a text without one. The last `true`: no digit may be lost.
 #[tactic(auto, using(crate::proofs::Numerals::all_digits))]
 fn number_with(positive: bool, text: &str) -> Option<Number>
     ensures { IfSome result (MeansWith positive text.now) }

@@ -51,6 +51,7 @@ impl Sink for Tree {
         })
     }
 
+    /// Up to 30 bytes stand inline.
     fn put_string(&mut self, text: &str) -> Result<(), Fault> {
         if text.len() <= MAX_LEN {
             return self.put_value(JsonValue::Short(Short::from_slice(text)));
@@ -90,7 +91,7 @@ impl Sink for Tree {
 #[derive(Drop)]
 pub(crate) struct Text<G: Generator + Drop> {
     pub(crate) out: G,
-    /// The writer's error, which a step that failed left here.
+    /// The writer's error, left by a failed step.
     pub(crate) slot: Option<io::Error>,
     /// How many containers are open.
     depth: u64,
@@ -108,7 +109,7 @@ impl<G: Generator + Drop> Text<G> {
         }
     }
 
-    /// What stands before an element or a key.
+    /// A comma, but not before the first, and a new line.
     fn separate(&mut self) -> Result<(), Fault> {
         if self.is_empty {
             self.is_empty = false;
@@ -120,7 +121,7 @@ impl<G: Generator + Drop> Text<G> {
     }
 }
 
-/// The fault of a step of a generator that failed, whose error is in the slot.
+/// A generator's error, which the slot has, as a fault.
 #[inline(always)]
 fn done<E: Drop>(step: Result<(), E>) -> Result<(), Fault> {
     step.map_err(|_failed| Fault::MEMORY)

@@ -1,7 +1,5 @@
-//! A place in a value that is read, and the steps from one to the next.
-//!
-//! A frame in `frames` never changes: a mark copies the one that is read, and going back to it moves
-//! nothing.
+//! A place in a value that is read, and the steps to the next: members (elements, entries) begin in
+//! order. A frame in `frames` never changes, so a mark copies just the current one.
 
 use crate::fault::Fault;
 use jzon::JsonValue;
@@ -11,16 +9,16 @@ use serde::{Case, Name};
 use std::alloc::Global;
 use std::result::Result;
 
-/// What is being read, member by member.
+/// What is read, member by member.
 #[derive(Clone, Copy, Drop)]
 pub(crate) enum Container<'v> {
-    /// The value that was passed stands alone.
+    /// The value that was passed.
     Whole(&'v JsonValue),
     Seq(&'v [JsonValue]),
     Map(&'v Object),
 }
 
-/// What the next step is about.
+/// What the next step reads.
 #[derive(Clone, Copy, Drop)]
 pub(crate) enum Due<'v> {
     Value(&'v JsonValue),
@@ -34,10 +32,11 @@ pub(crate) enum Due<'v> {
 pub(crate) struct Frame<'v> {
     pub(crate) container: Container<'v>,
     pub(crate) begun: usize,
-    /// How many frames the containers around it have.
+    /// The frame around it is `frames[level - 1]`; 0 for `Whole`.
     pub(crate) level: usize,
 }
 
+/// What `rewind` and `release` restore.
 #[derive(Clone, Copy, Drop)]
 pub(crate) struct Mark<'v> {
     pub(crate) frame: Frame<'v>,
@@ -48,7 +47,7 @@ pub(crate) struct Mark<'v> {
     pub(crate) spelling: Spelling,
 }
 
-/// What a type asked last of the value that is due, before it read any of it.
+/// What a type asked last of what is due, before it read it: for `invalid`.
 #[derive(Clone, Copy, Drop, PartialEq, Eq)]
 pub(crate) enum Asked {
     Nothing,
@@ -58,7 +57,7 @@ pub(crate) enum Asked {
     Unit,
     /// To be read as an integer, which the key is.
     Integer,
-    /// To be read in each of several forms, which it doesn't have.
+    /// To be a variant of an untagged enum, which it isn't.
     Forms,
 }
 
@@ -67,24 +66,22 @@ pub(crate) struct TreeFormat<'v> {
     pub(crate) alloc: Global,
     /// The containers around `frame`, and those to which a mark may go back.
     pub(crate) frames: Vec<Frame<'v>>,
-    /// How many frames a mark needs.
+    /// How many of `frames` a mark needs, which `leave` keeps.
     pub(crate) kept: usize,
     pub(crate) frame: Frame<'v>,
     pub(crate) due: Due<'v>,
-    /// The key that was last read as a value. `None` again once the next member begins, and where
-    /// an error is no longer the key's.
+    /// The key that was last read; `None` once an error is no longer the key's.
     pub(crate) key: Option<&'v str>,
-    /// The error of the variant's name that was last looked up in vain.
+    /// The error of the last name that is no variant's.
     pub(crate) unknown: Option<Fault>,
     pub(crate) asked: Asked,
-    /// How the last object's names are spelled.
     pub(crate) spelling: Spelling,
 }
 
 /// How the names of a struct's fields are spelled as keys, by which a missing one is named.
 #[derive(Clone, Copy, Default, Drop)]
 pub(crate) struct Spelling {
-    /// The container around, and how many of its members were begun.
+    /// The frame around, as the object ended.
     pub(crate) level: usize,
     pub(crate) begun: usize,
     /// The bit of each case of theirs: none if they aren't known.
@@ -92,8 +89,7 @@ pub(crate) struct Spelling {
 }
 
 impl<'v> TreeFormat<'v> {
-    /// At the value, which is begun, as the one member of `Whole`. `spelling` is of no object: at
-    /// level 0 none is begun.
+    /// At the value, begun as the one member of `Whole`; so the default `spelling` is of no object.
     pub(crate) fn new(alloc: Global, value: &'v JsonValue) -> TreeFormat<'v> {
         TreeFormat {
             alloc,
@@ -112,7 +108,7 @@ impl<'v> TreeFormat<'v> {
         }
     }
 
-    /// Fails unless the value was read to its end.
+    /// Fails unless the whole value was read.
     pub(crate) fn end(&self) -> Result<(), Fault> {
         match (self.due, self.frame.container) {
             (Due::Nothing, Container::Whole(_)) => Ok(()),
@@ -120,7 +116,7 @@ impl<'v> TreeFormat<'v> {
         }
     }
 
-    /// The value that is due. A key has to be a string's, a number's or a boolean's.
+    /// The value that is due. A due key is an error: the type is no string, number or boolean.
     #[inline(always)]
     pub(crate) fn look(&self) -> Result<&'v JsonValue, Fault> {
         match self.due {
@@ -130,6 +126,7 @@ impl<'v> TreeFormat<'v> {
         }
     }
 
+    /// Goes before a container's first member.
     #[inline(always)]
     pub(crate) fn enter(&mut self, container: Container<'v>) -> Result<(), Fault> {
         self.frames.push(self.frame)?;
@@ -160,7 +157,7 @@ impl<'v> TreeFormat<'v> {
         }
     }
 
-    /// The next entry of an object.
+    /// The next entry of an object; `None` after the last, and it is left.
     #[inline(always)]
     pub(crate) fn entry(&mut self) -> Result<Option<(&'v str, &'v JsonValue)>, Fault> {
         let (Container::Map(object), Due::Nothing) = (self.frame.container, self.due) else {
@@ -174,7 +171,7 @@ impl<'v> TreeFormat<'v> {
         Ok(Some(entry))
     }
 
-    /// The next member begins: no error of it names the key of the one before, or what was asked.
+    /// No error of the next member names the key of the one before, or what was asked.
     #[inline(always)]
     pub(crate) fn begin_member(&mut self) {
         self.frame.begun = self.frame.begun.saturating_add(1);
@@ -182,7 +179,7 @@ impl<'v> TreeFormat<'v> {
         self.key = None;
     }
 
-    /// The string that is due, or the key.
+    /// Reads the string or key that is due.
     #[inline(always)]
     pub(crate) fn text(&mut self) -> Result<&'v str, Fault> {
         if let Some(key) = self.key() {
@@ -192,7 +189,7 @@ impl<'v> TreeFormat<'v> {
         self.taken(text, Expected::String)
     }
 
-    /// Passes over the value that is due, if it is what is expected.
+    /// Passes over the value due, in which `found` was found; `None` is an error.
     #[inline(always)]
     pub(crate) fn taken<T>(&mut self, found: Option<T>, expected: Expected) -> Result<T, Fault> {
         let Some(found) = found else {
@@ -202,7 +199,7 @@ impl<'v> TreeFormat<'v> {
         Ok(found)
     }
 
-    /// Reads the key that is due, if one is.
+    /// Reads the key that is due, if one is: its value is due then.
     #[inline(always)]
     pub(crate) fn key(&mut self) -> Option<&'v str> {
         let Due::Key(key, value) = self.due else {
@@ -213,8 +210,8 @@ impl<'v> TreeFormat<'v> {
         Some(key)
     }
 
-    /// Keeps in which cases the names are spelled by which an object was read, once it was left: so
-    /// `frame` is around it. If another struct was read from it (`flatten`), its cases stay too.
+    /// Keeps the cases of the names by which the object that was just left was read: `frame` is around
+    /// it. Those of a struct read from it before (`flatten`) stay.
     #[inline(always)]
     pub(crate) fn note_spelling(&mut self, names: &[Name<'_>]) {
         if !self.is_spelled_here() {
@@ -230,7 +227,7 @@ impl<'v> TreeFormat<'v> {
         }
     }
 
-    /// Whether the spelling is of the object that ended just now.
+    /// Whether the spelling is of the object just ended.
     #[inline(always)]
     pub(crate) fn is_spelled_here(&self) -> bool {
         let frame = self.frame;
@@ -238,7 +235,7 @@ impl<'v> TreeFormat<'v> {
     }
 }
 
-/// A bit of its own for each case, in `Spelling::cases`.
+/// A bit in `Spelling::cases`.
 #[inline(always)]
 pub(crate) fn case_bit(case: Case) -> u16 {
     1 << case as u16

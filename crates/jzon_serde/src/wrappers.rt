@@ -1,5 +1,4 @@
-//! jzon's own types as fields of a type of `serde`. The types and the traits stand in other crates,
-//! so each is wrapped.
+//! jzon's own types as fields of a type of `serde`: wrapped, as types and traits are other crates'.
 
 ghost use Rattle.std.specs.Prelude.{Some};
 ghost use Rattle.jzon.specs.NumberText.{decimal_text};
@@ -39,9 +38,8 @@ pub struct Json(JsonValue);
 /// An exact decimal, as a field of a type of `serde`: it is read without rounding, and the calls of
 /// this crate write all of its digits.
 ///
-/// `serde` has no step for a decimal. So other formats read the nearest float, and write a float if its
-/// shortest text means the number, which up to 15 digits in a float's range holds, and else return an
-/// error.
+/// Other formats read the nearest float, and write a float if its shortest text means the number, as up
+/// to 15 digits in a float's range do, and else return an error.
 #[derive(Clone, Copy, Debug, PartialEq, Eq)]
 pub struct Exact(Number);
 
@@ -112,9 +110,9 @@ impl Serialize for Json {
     }
 }
 
-/// Writes a number with the exponent 0, but not `-0`, as an integer. Any other is told as an
-/// error's words, which only `Events` takes. For other formats a float follows that means it, or a
-/// list as a key, which none takes.
+/// Writes a number (no NaN) with the exponent 0, but not `-0`, as an integer. Any other is told as an
+/// error's words, which only `Events` takes. For other formats a float follows that means it, or a list
+/// as a key, which none takes.
 fn send_number<S: Serializer>(number: Number, out: &mut S) -> Result<(), S::Error> {
     let (positive, mantissa, exponent) = number.as_parts();
     if exponent == 0 && positive {
@@ -139,6 +137,7 @@ fn send_number<S: Serializer>(number: Number, out: &mut S) -> Result<(), S::Erro
     out.begin_seq(None)
 }
 
+/// Writes any value, in which at most `depth` containers may be open.
 #[cycle(send)]
 fn send<S: Serializer>(value: &JsonValue, out: &mut S, depth: usize) -> Result<(), S::Error> {
     match value {
@@ -154,6 +153,7 @@ fn send<S: Serializer>(value: &JsonValue, out: &mut S, depth: usize) -> Result<(
     }
 }
 
+/// `depth` is left to each element.
 #[cycle(send)]
 fn send_items<S: Serializer>(
     items: &Vec<JsonValue>,
@@ -167,6 +167,7 @@ fn send_items<S: Serializer>(
     out.end_seq()
 }
 
+/// `depth` is left to each value.
 #[cycle(send)]
 fn send_entries<S: Serializer>(object: &Object, out: &mut S, depth: usize) -> Result<(), S::Error> {
     out.begin_map(Some(object.len()))?;
@@ -195,13 +196,15 @@ impl DeserializeOwned for Exact {
             Kind::Unsigned => Ok(Exact(Number::from(from.u64()?))),
             Kind::Signed => Ok(Exact(Number::from(from.i64()?))),
             Kind::Float => Ok(Exact(fetch_number(alloc, from)?)),
-            // The format's own error, or a float.
+            // A map's key, as a float, or the format's error.
             _ => Ok(Exact(fetch_float(from)?)),
         }
     }
 }
 
-/// By its text, which the format of a value has (`byte_buf`), or else by a float.
+/// Reads a number by its text, which `TreeFormat` gives as bytes (`byte_buf`); where that fails or is
+/// no number's text, as in other formats, goes back to the mark and reads a float. After a fatal error
+/// the mark isn't released: the read fails.
 fn fetch_number<F: Format>(
     alloc: Global,
     from: &mut Deserializer<'_, '_, F>,
@@ -222,7 +225,8 @@ fn fetch_number<F: Format>(
     }
 }
 
-/// The number of a float's shortest text.
+/// Reads a float, as the number of its shortest text: at most 17 digits, which fit. NaN and infinity,
+/// which other formats may have, become NaN.
 fn fetch_float<F: Format>(from: &mut Deserializer<'_, '_, F>) -> Result<Number, F::Error> {
     let float = from.f64()?;
     let mut buffer = ryu::Buffer::new();
@@ -251,7 +255,7 @@ impl DeserializeOwned for Json {
     }
 }
 
-/// A string as a value, inline if it is short.
+/// A string as a value, inline up to 30 bytes.
 fn stored(text: String) -> JsonValue {
     if text.len() <= MAX_LEN {
         return JsonValue::Short(Short::from_slice(text.as_str()));
@@ -259,6 +263,7 @@ fn stored(text: String) -> JsonValue {
     JsonValue::String(text)
 }
 
+/// Reads any value, in which at most `depth` containers may be open.
 #[cycle(fetch)]
 fn fetch<F: Format>(
     alloc: Global,
@@ -278,7 +283,7 @@ fn fetch<F: Format>(
     }
 }
 
-/// Reads the elements of an array. The loop has a bound, so that it ends whatever the format says.
+/// Reads an array's elements. The loop's bound makes it end whatever the format says.
 #[cycle(fetch)]
 fn fetch_items<F: Format>(
     alloc: Global,
@@ -297,7 +302,8 @@ fn fetch_items<F: Format>(
     Ok(items)
 }
 
-/// Reads the entries of an object, as `fetch_items`.
+/// Reads an object's entries; of a repeated key the last value is kept, at the first's position. The
+/// loop's bound makes it end.
 #[cycle(fetch)]
 fn fetch_entries<F: Format>(
     alloc: Global,

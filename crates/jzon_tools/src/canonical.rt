@@ -1,10 +1,9 @@
 //! Canonical texts, which aren't those of RFC 8785, and copies with sorted keys.
 //!
 //! The canonical text is the compact text of a copy, in which keys are sorted by their bytes at
-//! every depth, each zero is `0`, and no other mantissa ends in a zero. `law` says that equal values
-//! have one text, and other values another. RFC 8785 sorts keys by UTF-16 units, and its numbers
-//! are those of doubles: where it has `1e+21` and `1e-7`, a canonical text has `1e21` and
-//! `0.0000001`.
+//! every depth, each zero is `0`, and no other mantissa ends in a zero. RFC 8785 sorts keys by
+//! UTF-16 units, and its numbers are those of doubles: where it has `1e+21` and `1e-7`, a canonical
+//! text has `1e21` and `0.0000001`.
 
 ghost use Rattle.std.specs.Prelude.{◌≡◌, ◌↔◌, ◌⊎◌, [], false, true, IfErr, IfOk, None, OnOk, Some, chars, map, string_bytes};
 ghost use Rattle.std.specs.List.{list_any};
@@ -34,9 +33,8 @@ pub use sorted_copies::{sort_keys, sorted};
 use std::alloc::{AllocError, Global};
 use std::{io, slice};
 
-/// The canonical text of a value without NaN. After an `Err`, `is_not_a_number` says whether a NaN is
-/// in the value, or memory lacks. The error of a NaN doesn't say where it is: it has the empty pointer,
-/// and no operation, member and place (`[] None None None`).
+/// The canonical text of a value without NaN. After an `Err`, `is_not_a_number` says whether a NaN
+/// is in the value, not where, or memory lacks.
 ///
 /// ```rust
 /// let mut order = jzon::parse(alloc, r#"{"to": "b", "sum": 1.50, "at": [-0, 1e2]}"#)?;
@@ -87,12 +85,11 @@ pub fn of_text(alloc: Global, source: &str) -> Result<String>
 }
 
 /// Two values without NaN are equal if and only if their canonical texts are the same. It does
-/// nothing: the law is its contract, as of `jzon::laws`.
+/// nothing: the law is its contract.
 pub fn law()
     ensures { CanonicalLaw }
 {}
 
-/// Whether a NaN is in the value.
 #[cycle(nan)]
 #[tactic(auto, using(crate::proofs::Views::views))]
 fn has_nan(value: &JsonValue) -> bool
@@ -106,7 +103,6 @@ fn has_nan(value: &JsonValue) -> bool
     }
 }
 
-/// Whether a NaN is in one of the values.
 #[cycle(nan)]
 fn any_has_nan(values: slice::Iter<'_, JsonValue>) -> bool
     ensures { result ≡ list_any has_nan (map view (iter_rest values.entry)) }
@@ -162,7 +158,7 @@ fn write_value<G: Generator>(alloc: Global, text: &mut G, value: &JsonValue) -> 
     Ok(())
 }
 
-/// As `write_value`, of an array.
+/// Adds the canonical text of an array, until a NaN is met.
 #[inline(never)]
 #[cycle(write)]
 fn write_array<G: Generator>(alloc: Global, text: &mut G, items: &[JsonValue]) -> Step
@@ -179,7 +175,7 @@ fn write_array<G: Generator>(alloc: Global, text: &mut G, items: &[JsonValue]) -
     Ok(())
 }
 
-/// As `write_value`, of an object, whose entries are written in the order of their keys.
+/// Adds the canonical text of an object, in the order of its keys, until a NaN is met.
 #[inline(never)]
 #[cycle(write)]
 fn write_object<G: Generator>(alloc: Global, text: &mut G, object: &Object) -> Step
@@ -211,7 +207,7 @@ fn write_comma<G: Generator>(text: &mut G, comma: bool) -> Step
     Ok(())
 }
 
-/// The number with `+0` for each zero; any other without the last zeros of its mantissa.
+/// The number with `+0` for each zero; NaN stays; any other without the last zeros of its mantissa.
 fn normal_number(number: Number) -> Number
     ensures { result ≡ normal_number number }
 {

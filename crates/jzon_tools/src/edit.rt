@@ -163,7 +163,7 @@ impl From<PointerError> for Refused {
     }
 }
 
-/// `update` without an allocation: the error doesn't own the pointer.
+/// `update` with an error that doesn't own the pointer, so without an allocator.
 fn update_at<R, F: FnOnce(&mut JsonValue) -> R>(
     value: &mut JsonValue,
     path: &str,
@@ -184,7 +184,7 @@ fn update_at<R, F: FnOnce(&mut JsonValue) -> R>(
     }
 }
 
-/// `replace` in the same way.
+/// `replace` with an error that doesn't own the pointer, so without an allocator.
 pub(crate) fn replace_at(
     value: &mut JsonValue,
     path: &str,
@@ -201,8 +201,8 @@ pub(crate) fn replace_at(
     update_at(value, path, |place| std::mem::replace(place, new))
 }
 
-/// `insert` in the same way, if at most `room` elements are shifted. Returns what is left of it. Where
-/// no value can be put there is none either, so `seek` finds why.
+/// `insert` with an error that doesn't own the pointer, if at most `room` elements are shifted.
+/// Returns what is left of `room`. Where no value can be put there is none either, so `seek` finds why.
 pub(crate) fn insert_at(
     alloc: Global,
     value: &mut JsonValue,
@@ -239,7 +239,8 @@ pub(crate) fn insert_at(
     }
 }
 
-/// `remove` in the same way.
+/// `remove` with an error that doesn't own the pointer, if at most `room` elements or entries are
+/// shifted. Returns the value, and what is left of `room`.
 pub(crate) fn remove_at(
     value: &mut JsonValue,
     path: &str,

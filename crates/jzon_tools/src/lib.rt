@@ -1,6 +1,6 @@
-//! What callers of `jzon` often need beside it (docs/TOOLS.md): changes at a pointer, patches, merge
-//! patches, layers, canonical texts, sorted keys, and redaction. Free functions and their errors, by
-//! module. Of the library's definitions they name only those of `jzon`.
+//! What callers of `jzon` often need beside it (docs/TOOLS.md): changes at a pointer, patches,
+//! merge patches, layers, canonical texts, sorted keys, and redaction. Free functions and their
+//! errors, by module.
 #![tactic(auto)]
 
 pub mod canonical;

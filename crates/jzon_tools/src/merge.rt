@@ -1,9 +1,10 @@
 //! Merge patches (RFC 7396) and layers of a configuration: a value that says what changes in
 //! another one.
 //!
-//! Both are `merged` of specs/Merge.antt, and differ at a null. The change is made in a copy, which
-//! then replaces the value: so an error leaves the value as it was. `merge`, `merge_members` and
-//! `merge_member` call one another; proofs/merge/+merge says what gets smaller: the size of the patch.
+//! Both are `merged` of specs/Merge.antt, and differ at a null, which a merge patch drops with the
+//! member (`drops_nulls`). The change is made in a copy, which then replaces the value: so an error
+//! leaves the value as it was. `merge`, `merge_members` and `merge_member` call one another;
+//! proofs/merge/+merge says what gets smaller: the size of the patch.
 //!
 //! If a patch removes many members, they are removed in one pass before its entries are merged:
 //! removing one moves all that come after it.
@@ -28,7 +29,7 @@ const REMOVED_SINGLY: usize = 16;
 
 /// Applies a merge patch (RFC 7396): an entry of the patch that is null removes the target's, any
 /// other is put into it, and objects are merged at every depth. A patch that is no object replaces
-/// the target. Nests no deeper than both did. Takes the time and memory of a clone of both.
+/// the target. Takes the time and memory of a clone of both.
 ///
 /// ```rust
 /// merge_patch(alloc, &mut target, &patch)?;
@@ -47,8 +48,8 @@ pub fn merge_patch(alloc: Global, target: &mut JsonValue, patch: &JsonValue) -> 
     Ok(())
 }
 
-/// Puts the entries of a later layer over those of a base, at every depth. Unlike in a merge patch,
-/// null is a value. Nests no deeper than both did. Takes the time and memory of a clone of both.
+/// Puts the entries of a later layer over those of a base, at every depth; one that is no object
+/// replaces the base. Null is a value. Takes the time and memory of a clone of both.
 #[tactic(auto, using(crate::proofs::MergeDepth::merged_depth))]
 pub fn layer(alloc: Global, base: &mut JsonValue, later: &JsonValue) -> Result<()>
     ensures ok { OnOk result (view base.new ≡ merged false (view base.old) (view later.now)) }
@@ -87,7 +88,6 @@ fn merge(alloc: Global, target: &mut JsonValue, patch: &JsonValue, drops_nulls: 
     }
 }
 
-/// Merges the members of a patch into an object.
 #[cycle(merge)]
 #[tactic(auto, using(crate::proofs::Merges::merges))]
 fn merge_members(
@@ -132,7 +132,6 @@ fn has_many_nulls(members: &Object) -> bool {
     members.values().filter(|value| value.is_null()).count() > REMOVED_SINGLY
 }
 
-/// Whether a patch has null for the key.
 #[tactic(auto, using(crate::proofs::Merges::merges))]
 fn is_null_at(members: &Object, key: &str) -> bool
     ensures { result ≡ is_null_found (find key.now (viewed (entries_of members.now))) }

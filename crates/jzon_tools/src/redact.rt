@@ -1,9 +1,9 @@
 //! Redaction: the value of each entry with one of some names is replaced by a fixed string, at any
 //! depth, in place.
 //!
-//! `redacted` of specs/Redact.antt says it over values. A loop writes the entries of an object by
-//! their positions, and the elements of an array by `iter_mut`: of both a contract can say what is
-//! written. Nothing is copied or allocated.
+//! `redacted` of specs/Redact.antt says it over values. Loops write entries by
+//! position, and elements by `iter_mut`: of both a contract can say what is written. Nothing is
+//! copied or allocated.
 
 ghost use Rattle.std.specs.Prelude.{◌≡◌, ◌-◌, ◌^◌, min, map, slice_get, if◌then◌else◌};
 ghost use Rattle.std.specs.List.{sum_by};
@@ -69,7 +69,8 @@ fn redact_members(object: &mut Object, names: &[&str]) -> usize
     count
 }
 
-/// Replaces the value of an entry if its name `hides` it, and otherwise redacts it.
+/// Replaces the value of an entry if its name `hides` it, and otherwise redacts it; counts what it
+/// replaced.
 #[cycle(redact)]
 #[tactic(auto, using(crate::proofs::RedactSteps::redaction))]
 fn redact_member(value: &mut JsonValue, hides: bool, names: &[&str]) -> usize

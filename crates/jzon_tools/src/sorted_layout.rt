@@ -1,4 +1,5 @@
-//! A custom layout, which prints the entries of each object in the order of their keys.
+//! A custom layout: no whitespace, and the entries of each object in the order of their keys, by
+//! bytes.
 //!
 //! `sorted_style` allows that order alone, so the contract says that what is printed is sorted.
 
@@ -22,7 +23,7 @@ pub fn sorted_text(alloc: Global, value: &JsonValue) -> Result<String>
     value.lay_out(alloc, Sorted { alloc })
 }
 
-/// No whitespace, and the entries of each object in the order of their keys.
+/// This layout.
 #[derive(Drop)]
 pub struct Sorted {
     pub alloc: Global,
@@ -63,7 +64,7 @@ fn sorted_positions(alloc: Global, object: &Object) -> std::result::Result<Vec<u
     Ok(positions)
 }
 
-/// The keys of the object, in the order of its entries: not sorted.
+/// The keys, in the order of the entries: not sorted.
 fn keys_in_order<'a>(
     alloc: Global,
     object: &'a Object,

@@ -1,5 +1,5 @@
-//! How deep a value nests, and how much it weighs, up to a limit: each call ends where the value
-//! passes it.
+//! How deep a value nests, and how much it weighs, about the bytes of a copy, up to a limit: each
+//! call ends where the value passes it.
 
 ghost use Rattle.std.specs.Prelude.{◌≡◌, ◌+◌, ◌<◌, nat_le, nat_lt, map, true, None, IfSome};
 ghost use Rattle.std.specs.List.{list_all};
@@ -14,11 +14,10 @@ use jzon::JsonValue;
 use jzon::object::Object;
 use std::slice;
 
-/// What each value weighs, beside the bytes of its string.
+/// What each value weighs, beside the bytes of its string or keys.
 const EACH: usize = 48;
 
-/// Whether at most `depth` non-empty containers nest in the value. Ends at the first that is too
-/// deep.
+/// Whether at most `depth` non-empty containers nest in the value.
 #[cycle(nests)]
 #[inline(always)]
 #[tactic(auto, using(crate::proofs::WeightSteps::nesting))]
@@ -32,7 +31,8 @@ pub fn nests_within(value: &JsonValue, depth: usize) -> bool
     }
 }
 
-/// The same of a container with these values: if there are any, it counts as one itself.
+/// Whether at most `depth` non-empty containers nest in one with these values: if there are any, it
+/// counts as one itself.
 #[cycle(nests)]
 fn all_nest_within(values: slice::Iter<'_, JsonValue>, depth: usize) -> bool
     ensures { result ≡ list_all (λ v. nat_lt (nest v) depth) (map view (iter_rest values.entry)) }
@@ -45,8 +45,8 @@ fn all_nest_within(values: slice::Iter<'_, JsonValue>, depth: usize) -> bool
     true
 }
 
-/// What is left of `room` after the weight of the value, or `None` if it weighs more, or if more than
-/// `depth` non-empty containers nest in it: one walk for both.
+/// What is left of `room` after the weight of the value, or `None` if it weighs more, or if more
+/// than `depth` non-empty containers nest in it.
 #[cycle(weigh)]
 #[inline(always)]
 #[tactic(auto, using(crate::proofs::WeightSteps::nesting))]
@@ -66,7 +66,8 @@ pub fn weigh(value: &JsonValue, depth: usize, room: usize) -> Option<usize>
     }
 }
 
-/// As `weigh`, of the elements of an array together.
+/// What is left of `room` after the elements of an array, or `None` if they weigh more, or one
+/// nests as deep as `depth`.
 #[cycle(weigh)]
 #[tactic(auto, using(crate::proofs::WeightSteps::nesting))]
 fn weigh_items(items: slice::Iter<'_, JsonValue>, depth: usize, room: usize) -> Option<usize>
@@ -85,7 +86,8 @@ fn weigh_items(items: slice::Iter<'_, JsonValue>, depth: usize, room: usize) -> 
     Some(left)
 }
 
-/// As `weigh`, of the keys and the values of an object together.
+/// What is left of `room` after keys and values, or `None` if they weigh more, or one nests as deep
+/// as `depth`.
 #[cycle(weigh)]
 #[tactic(auto, using(crate::proofs::WeightSteps::nesting))]
 fn weigh_members(object: &Object, depth: usize, room: usize) -> Option<usize>

@@ -1,6 +1,6 @@
-//! Changes to values (docs/RULES.md, "Changers"). A call that fails leaves the value's meaning
-//! unchanged and drops the value that was passed to it. A `WrongType` has an allocated string, so a
-//! call on a value of the wrong kind may also fail with `OutOfMemory`.
+//! Changes to values (docs/RULES.md, "Changers"). In clauses `view` is what a value means, whatever
+//! its capacity. A call that needs another kind of value leaves it as it is. The error `WrongType`
+//! names the needed kind in an allocated string, so it may be `OutOfMemory` instead.
 #![tactic(auto, using(crate::proofs::Values::Views::views, crate::proofs::Values::PartViews::seen))]
 
 ghost use Rattle.std.specs.Prelude.{◌≡◌, ◌-◌, codes, true, false, string_bytes, option_map, slice_get, remove, IfOk, IfErr, OnOk, OnErr, IsOkUnless, None};
@@ -42,9 +42,9 @@ impl JsonValue {
         mem::replace(self, JsonValue::Null)
     }
 
-    /// Returns the string and leaves null. `None` for any other value, which is left as it is. A
-    /// string that is stored inline is copied to an allocated `String`: only then the call can
-    /// fail, with `OutOfMemory`, and the value stays as it was.
+    /// Returns the string and leaves null. `None` for any other value. A string that is stored
+    /// inline is copied to an allocated one: only this can fail, with `OutOfMemory`, and the value
+    /// stays as it was.
     pub fn take_string(&mut self, alloc: Global) -> Result<Option<String>>
         ensures value { IfOk result (λ s. option_map string_bytes s ≡ text_in (view self.old)) }
         ensures after { OnOk result (view self.new ≡ without_text (view self.old)) }
@@ -93,13 +93,13 @@ impl JsonValue {
     }
 
     /// Removes the last element of an array and returns it. Null if the array is empty, and for any
-    /// other value, which is left as it is.
+    /// other value.
     pub fn pop(&mut self) -> JsonValue
         ensures value { view result ≡ or_null
             (slice_get (items (view self.old)) (count (view self.old) - 1)) }
         ensures after { view self.new ≡ without_item (count (view self.old) - 1) (view self.old) }
     {
-        // Without an element this is 0, which is past the end.
+        // Without elements this is 0, which is past the end.
         let last = self.len().saturating_sub(1);
         self.array_remove(last)
     }
@@ -126,9 +126,9 @@ impl JsonValue {
         }
     }
 
-    /// Removes the entry of the key of an object and returns its value. Null if the key is missing,
-    /// and for any other value, which is left as it is. The entries after it move up, so the time
-    /// of a call grows with their number (measured, not proved).
+    /// Removes the entry of an object's key and returns its value. Null if the key is missing, and
+    /// for any other value. Later entries move up, so the time grows with their number (measured,
+    /// not proved).
     pub fn remove(&mut self, key: &str) -> JsonValue
         ensures value { view result ≡ or_null (find key.now (entries (view self.old))) }
         ensures after { view self.new ≡ without_entry key.now (view self.old) }
@@ -140,8 +140,8 @@ impl JsonValue {
     }
 
     /// Removes the element at a position of an array and returns it. Null past the end, and for any
-    /// other value, which is left as it is. The elements after it move up, so the time of a call
-    /// grows with their number (measured, not proved).
+    /// other value. Later elements move up, so the time grows with their number (measured, not
+    /// proved).
     pub fn array_remove(&mut self, index: usize) -> JsonValue
         ensures value { view result ≡ or_null (slice_get (items (view self.old)) index) }
         ensures after { view self.new ≡ without_item index (view self.old) }
@@ -152,8 +152,8 @@ impl JsonValue {
         }
     }
 
-    /// Makes a string, an array or an object empty; a string stays inline or allocated. Any other
-    /// value becomes null.
+    /// Makes a string, an array or an object empty; a string stays inline or allocated, as it was. Any
+    /// other value becomes null.
     pub fn clear(&mut self)
         ensures { view self.new ≡ cleared (view self.old) }
     {
@@ -167,7 +167,7 @@ impl JsonValue {
     }
 }
 
-/// Removes the element at a position. `None` past the end.
+/// Removes the element at a position and returns it. `None` past the end.
 fn remove_item(items: &mut Vec<JsonValue>, index: usize) -> Option<JsonValue>
     ensures value { result ≡ slice_get items.old.items index }
     ensures after { items.new.items ≡ remove items.old.items index }

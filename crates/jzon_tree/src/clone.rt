@@ -1,5 +1,5 @@
-//! Copies of values and of objects: `clone(alloc)`, and std's `Clone` for `derive(Clone)` and for
-//! `clone` of lists.
+//! Copies of values and of objects: `clone(alloc)`, and std's `Clone`, which passes no allocator,
+//! for `derive(Clone)` and for `clone` of lists.
 #![tactic(auto, using(crate::proofs::Values::Views::views))]
 
 ghost use Rattle.std.specs.Prelude.{◌≡◌, map, IfOk, IsOkUnless};
@@ -11,9 +11,9 @@ use jzon_base::error::{Error, Result};
 use std::alloc::{AllocError, Global};
 
 impl JsonValue {
-    /// A copy of the value, with the parts of its numbers and the order of its keys. Fails with
-    /// `OutOfMemory` only.
-    // As a function, it would clear and move one result more.
+    /// A copy of the value, also of how its numbers and strings are stored and its keys are ordered.
+    /// Fails with `OutOfMemory` only.
+    // Inlined, because a call would clear and move one result more.
     #[inline(always)]
     pub fn clone(&self, alloc: Global) -> Result<JsonValue>
         ensures copy { IfOk result (λ copy. view copy ≡ view self.now) }
@@ -32,7 +32,7 @@ impl JsonValue {
 }
 
 impl Object {
-    /// As `JsonValue::clone`.
+    /// A copy of the object. Fails with `OutOfMemory` only.
     pub fn clone(&self, alloc: Global) -> Result<Object>
         ensures copy { IfOk result (λ copy. view_object copy ≡ view_object self.now) }
         ensures memory { IsOkUnless result Error.OutOfMemory }
@@ -40,8 +40,8 @@ impl Object {
         Ok(self.copy(alloc)?)
     }
 
-    /// As `clone`, with an error without bytes, so that less is cleared. Not inlined into the loop
-    /// over elements, which has a smaller stack frame without it.
+    /// A copy of the object. `AllocError` has no bytes, so that less of the result is cleared. Not
+    /// inlined into `copy_items`, whose stack frame is smaller without it.
     #[inline(never)]
     #[cycle(copy)]
     fn copy(&self, alloc: Global) -> std::result::Result<Object, AllocError>
@@ -53,7 +53,7 @@ impl Object {
     }
 }
 
-/// Copies of the values, in order, each made in place, because a value that is returned is moved.
+/// Copies of the values, in order, each made in place, because the result of `clone` would be moved.
 /// Not inlined, so that its stack frame stays small.
 #[inline(never)]
 #[cycle(copy)]
@@ -81,7 +81,7 @@ fn copy_items(alloc: Global, items: &[JsonValue]) -> std::result::Result<Vec<Jso
     Ok(copies)
 }
 
-/// As `JsonValue::clone`, with the allocator of the value.
+/// A copy made with the allocator of the container or string.
 impl Clone for JsonValue {
     ghost is_clone = { λ v w. view w ≡ view v };
 
@@ -98,7 +98,7 @@ impl Clone for JsonValue {
     }
 }
 
-/// As `Object::clone`, with the allocator of the object.
+/// A copy made with the allocator of the object.
 impl Clone for Object {
     ghost is_clone = { λ o p. view_object p ≡ view_object o };
 

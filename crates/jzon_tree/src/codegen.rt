@@ -1,6 +1,5 @@
-//! Printing: generators and layouts (docs/GENERATORS.md). `driver` goes over a value and
-//! calls the hooks of a `generator`; `text_generator` has the generators of the crate, which write
-//! to a `destination` by `pieces`, `strings` and `layout`.
+//! Printing (docs/GENERATORS.md). `driver` goes over a value and calls the methods (*hooks*) of a
+//! `generator`. Those of the crate, in `text_generator`, write to a `destination`.
 //!
 //! ```text
 //! trait        implemented by                                used by

@@ -1,4 +1,4 @@
-//! Equality of values and of objects (docs/RULES.md, "Equality").
+//! Equality of values and of objects (docs/RULES.md, "Equality"), which clauses call `same`.
 
 ghost use Rattle.std.specs.Prelude.{◌≡◌, Some};
 ghost use Rattle.std.specs.Option.{option_copied};
@@ -46,11 +46,11 @@ impl PartialEq for Object {
 
     ghost laws = { on_per view_object (partial_equiv_from_equiv same_equiv) };
 
-    // Not inlined, so that comparing two primitives needn't save registers on the stack.
+    // Not inlined, so that comparing two primitives needn't save registers.
     #[inline(never)]
     #[cycle(same)]
     fn eq(&self, other: &Object) -> bool {
-        // As many entries, and each key of `self` in `other`: so `other` has no further key.
+        // Keys are distinct: with as many entries, and each key of `self`, `other` has no other key.
         if self.len() != other.len() {
             return false;
         }
@@ -70,7 +70,8 @@ impl Eq for Object {
     ghost laws = { on_equiv view_object same_equiv };
 }
 
-/// Not inlined, for the same reason as `eq` of objects.
+/// Whether both have equal elements in the same order. Not inlined, so that comparing two primitives
+/// needn't save registers.
 #[inline(never)]
 #[cycle(same)]
 fn same_array(items: &[JsonValue], others: &[JsonValue]) -> bool
@@ -87,8 +88,8 @@ fn same_array(items: &[JsonValue], others: &[JsonValue]) -> bool
     true
 }
 
-/// The value of the key in `object`; `None` if the key is missing. `guess`, an entry of `object`, is
-/// tried first: equal objects mostly have their keys in one order.
+/// The value of the key in `object`; `None` if missing. `guess`, an entry of `object`, is tried
+/// first: equal objects mostly have their keys in one order.
 #[inline(always)]
 fn find_with_guess<'a>(
     object: &'a Object,

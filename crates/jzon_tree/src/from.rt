@@ -1,5 +1,5 @@
 //! Values from types whose conversion allocates nothing (docs/RULES.md, "Conversions"). An integer
-//! becomes the number with the exponent 0.
+//! becomes a number with exponent 0 (`integer_parts` in clauses).
 
 ghost use Rattle.std.specs.Prelude.{◌≡◌, pos, string_bytes};
 ghost use Rattle.jzon_base.specs.Decimal.{integer_parts};
@@ -11,18 +11,17 @@ use crate::value::JsonValue;
 use jzon_base::number::Number;
 
 /// Types that convert into a value without an allocation, so without an error. `JsonValue`
-/// implements `From` for each of them, and each implements `IntoJson`. No other crate can name this
-/// trait.
+/// implements `From` for each, and each implements `IntoJson`. No other crate can name this trait.
 pub trait Direct: Drop {
-    // What a source means.
+    // The meaning of the value that `self` becomes.
     ghost value: { Self → Value };
 
-    /// Converts into a value.
+    /// Converts into the value that `value` names.
     fn into_value(self) -> JsonValue
         ensures { view result ≡ value self };
 }
 
-/// Converts by `into_value`. Never fails, and allocates nothing.
+/// Allocates nothing.
 impl<T: Direct> From<T> for JsonValue {
     ghost from_gives = { λ x v. view v ≡ T.value x };
 
@@ -119,7 +118,6 @@ impl Direct for bool {
     }
 }
 
-/// A number keeps its parts.
 impl Direct for Number {
     ghost value = { number };
 
@@ -128,7 +126,7 @@ impl Direct for Number {
     }
 }
 
-/// A `String` becomes a `JsonValue::String`, however short it is.
+/// A `JsonValue::String`, however short.
 impl Direct for String {
     ghost value = { λ s. text long (string_bytes s) };
 

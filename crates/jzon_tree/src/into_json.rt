@@ -12,10 +12,10 @@ use jzon_base::error::{Error, Result};
 use jzon_base::short::{MAX_LEN, Short};
 use std::alloc::Global;
 
-/// Types that convert into a value. An implementation may say by the relation `means` which values
-/// a source means, and an `Ok` is one of them; and by `is_free` for which sources it never fails.
+/// Types that convert into a value. For proofs an `impl` may say by `means` which values a source
+/// (`self`) means, of which an `Ok` is one; and by `is_free` for which sources it never fails.
 ///
-/// An `impl` without them promises nothing of the value, and may fail for each source:
+/// Without them (`⊤` always holds, `⊥` never) it promises nothing of the value, and may fail:
 ///
 /// ```rust
 /// impl IntoJson for Server {
@@ -40,7 +40,6 @@ pub trait IntoJson: Drop {
         ensures free { is_free self → IsOk result };
 }
 
-/// A value means itself.
 impl IntoJson for JsonValue {
     ghost means = { λ v w. w ≡ view v };
 
@@ -51,8 +50,7 @@ impl IntoJson for JsonValue {
     }
 }
 
-/// The types of `Direct`: integers, `bool`, `Number`, `String` and `Object`. Each converts as by
-/// `JsonValue::from`, without an allocation.
+/// The types of `Direct`: integers, `bool`, `Number`, `String` and `Object`. No allocation.
 impl<T: Direct> IntoJson for T {
     ghost means = { λ x v. v ≡ T.value x };
 
@@ -63,12 +61,11 @@ impl<T: Direct> IntoJson for T {
     }
 }
 
-/// A string of at most `short::MAX_LEN` bytes is stored inline, without an allocation. A longer one
-/// is copied to an allocated `String`.
+/// A string of at most `short::MAX_LEN` (30) bytes is stored inline, without an allocation. A longer
+/// one is copied to a `String`.
 impl IntoJson for &str {
     ghost means = { λ s v. v ≡ text (kind_of s.now) s.now };
 
-    // 30 is `short::MAX_LEN`.
     ghost is_free = { λ s. length s.now ≤ 30 };
 
     fn into_json(self, alloc: Global) -> Result<JsonValue> {

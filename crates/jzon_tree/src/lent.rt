@@ -1,7 +1,9 @@
-//! Mutable references to the parts of a value (docs/RULES.md, "Readers" and "Changers"). The
-//! checker proves what is written back through a reference only if its type isn't that of the
-//! receiver (docs/TOOLCHAIN.md, "A `&mut T` out of a `T`"). So three calls have their bodies
-//! in the trait `Tree`: `get_in`, `at_in` and `at_index_in`.
+//! Mutable references to the parts of a value (docs/RULES.md, "Readers" and "Changers"). The clause
+//! `writes_back` says what the value is after a write of `w` through the reference. The checker
+//! proves this only if the reference is of another type than the receiver (docs/TOOLCHAIN.md, "A
+//! `&mut T` out of a `T`"). So `get_mut`, `at_mut` and `at_index_mut` have their bodies in the trait
+//! `Tree`, and a caller whose proof needs the write calls `write_present`, `write_at` or
+//! `write_at_index`.
 //!
 //! In clauses `items_with_place` are the elements once there is one for the index, and `place_made`
 //! is the position of that one.
@@ -30,16 +32,16 @@ use std::slice;
 use tree::Tree;
 pub use writes::{write_at, write_at_index, write_present};
 
-/// Iterator over the elements of an array, as mutable references.
+/// Double-ended iterator over mutable references to elements.
 pub type MembersMut<'a> = slice::IterMut<'a, JsonValue>;
 
-/// Iterator over the entries of an object, with mutable references to their values.
+/// Double-ended iterator over entries, each as its key's text and a mutable reference to its value.
 pub type EntriesMut<'a> = object::IterMut<'a>;
 
 impl JsonValue {
     ghost use Rattle.jzon_tree.specs.contracts.value.JsonValue.{the_row};
 
-    /// A mutable reference to the object. `None` for any other value.
+    /// A mutable reference to the object, else `None`.
     pub fn as_object_mut(&mut self) -> Option<&mut Object>
         ensures* writes_back { sem 𝓛 (LendsIf the_row object_row self.entry result object_value
             self.old) }
@@ -51,7 +53,7 @@ impl JsonValue {
         }
     }
 
-    /// A mutable reference to the elements of the array. `None` for any other value.
+    /// A mutable reference to the elements of an array, else `None`.
     pub fn as_array_mut(&mut self) -> Option<&mut Vec<JsonValue>>
         ensures* writes_back { sem 𝓛 (LendsIf the_row
             (vec_row the_row) self.entry result array_value self.old) }
@@ -63,8 +65,7 @@ impl JsonValue {
         }
     }
 
-    /// Iterates over mutable references to the elements of an array in order, from both ends; over
-    /// nothing for any other value.
+    /// Iterates over the elements of an array in order, else over nothing.
     ///
     /// ```rust
     /// for element in list.members_mut() {
@@ -82,8 +83,7 @@ impl JsonValue {
         }
     }
 
-    /// Iterates over the entries of an object in order, from both ends, with mutable references to
-    /// their values; over nothing for any other value.
+    /// Iterates over the entries of an object in order, else over nothing.
     pub fn entries_mut(&mut self) -> EntriesMut<'_>
         ensures { iter_mut_rest result ≡ entries_in self.old }
     {
@@ -94,8 +94,7 @@ impl JsonValue {
     }
 
     /// A mutable reference to the value of an object's key. `None` if the key is missing, and for
-    /// any other value. A write through it changes nothing else. A caller's proof learns of the
-    /// write by `as_object_mut`, or calls `lent::write_present` instead.
+    /// any other value.
     ///
     /// ```rust
     /// if let Some(found) = data.get_mut("name") {
@@ -110,11 +109,9 @@ impl JsonValue {
         self.get_in(key)
     }
 
-    /// A mutable reference to the value of an object's key. A missing key is first put last, with
-    /// null, and a value that isn't an object first becomes an empty one. A write through it
-    /// changes nothing else. Fails with `OutOfMemory` only, and then nothing has changed; a key
-    /// that is present needs no allocation. A caller's proof that needs the write calls
-    /// `lent::write_at` instead.
+    /// A mutable reference to the value of an object's key. A value that isn't an object first
+    /// becomes an empty one, and a missing key is put last, with null. Fails with `OutOfMemory`
+    /// only, and then nothing has changed; a present key needs no allocation.
     ///
     /// ```rust
     /// *data.at_mut(alloc, "count")? = jzon::from(alloc, 1u8)?;
@@ -131,12 +128,10 @@ impl JsonValue {
         self.at_in(alloc, key)
     }
 
-    /// A mutable reference to the element of an array at an index. Past the end the array first
-    /// gains one null, whatever the index, and the reference is to that null. A value that isn't an
-    /// array first becomes `[null]` for index 0 and `[null,null]` for any other, and the reference
-    /// is to the last null. Fails with `OutOfMemory` only, and then the value means what it meant;
-    /// an index in range of an array needs no allocation. A caller's proof that needs the write
-    /// calls `lent::write_at_index` instead.
+    /// A mutable reference to the element of an array at an index. For any index past the end, the
+    /// array first gains one null. A value that isn't an array first becomes `[null]` for index 0 and
+    /// `[null,null]` for any other. The reference is then to the last null. Fails with `OutOfMemory`
+    /// only, and then the value means what it meant; an index in range needs no allocation.
     pub fn at_index_mut(&mut self, alloc: Global, index: usize) -> Result<&mut JsonValue>
         ensures* writes_back { sem 𝓛 (LendsSoOk the_row the_row self.entry result
             (λ n w. items_in n ≡ Some (slice_set (items_with_place self.old index)

@@ -1,5 +1,8 @@
-//! Objects: `Pairs` of values. `?` turns the `AllocError` of a call of `Pairs` or `Key` into
-//! `OutOfMemory`.
+//! Objects, stored as `Pairs`. `?` turns the `AllocError` of `Pairs` and `Key` into `OutOfMemory`.
+//!
+//! In clauses `entries_of` are the keys and values in order; `find` looks a key up, `put` and
+//! `put_each` put entries, and `cut` removes one. `writes_back` says what the object is after a
+//! write of `w` through the reference.
 
 ghost use Rattle.std.specs.Prelude.{◌≡◌, ◌-◌, ◌==◌, List, [], length, OnOk, OnErr, IfOk, IsOkUnless, None, IfSome, Some, is_some};
 ghost use Rattle.std.specs.Option.{option_copied, option_copied_mut};
@@ -31,28 +34,28 @@ use std::convert::AsStr;
 use std::iter::FusedIterator;
 use std::{slice, vec};
 
-/// The most pairs that `from_pairs` makes room for ahead: an iterator may expect far more than there
-/// are distinct keys.
+/// The most entries for which `from_pairs` allocates ahead: an iterator may expect far more than
+/// there are distinct keys.
 const ROOM_MAX: usize = 256;
 
-/// The entries of an object that are left, each as its key's text and its value.
+/// Double-ended iterator over entries, each as its key's text and its value.
 pub type Iter<'a> = pairs::Iter<'a, JsonValue>;
 
 /// As `Iter`, with a mutable reference to each value.
 pub type IterMut<'a> = pairs::IterMut<'a, JsonValue>;
 
-/// The keys of an object that are left, each as its text.
+/// Double-ended iterator over the texts of keys.
 pub type Keys<'a> = keys::Iter<'a>;
 
-/// The values of an object that are left.
+/// Double-ended iterator over values.
 pub type Values<'a> = slice::Iter<'a, JsonValue>;
 
-/// The entries of an object that are left, each as its key and its value.
+/// Double-ended iterator that owns the keys and values that are left.
 #[derive(Drop)]
 pub struct IntoIter {
     keys: vec::IntoIter<Key>,
     values: vec::IntoIter<JsonValue>,
-    // As many values are left as keys, so that `next` requires nothing of its caller.
+    // As many values are left as keys, so `next` never takes a key without a value.
     ghost as_many: { length (into_iter_items values) ≡ length (into_iter_items keys) },
 }
 
@@ -116,8 +119,9 @@ impl Object {
         Ok(Object::from_entries(alloc, keys, values)?)
     }
 
-    /// As `from_pairs`, for keys and as many values. Public only for the parser and `jzon_serde`.
-    /// Inlined like `Pairs::from_entries`.
+    /// The object of keys and as many values, where a later value replaces that of an equal key.
+    /// Public only for the parser and `jzon_serde`. Inlined, because each small object of a text is
+    /// made here.
     #[doc(hidden)]
     #[inline(always)]
     pub fn from_entries(
@@ -133,7 +137,7 @@ impl Object {
         Ok(Object { pairs })
     }
 
-    /// As `Pairs::from_known`.
+    /// The object of distinct keys and as many values. `known` has the keys' index, if there is one.
     #[doc(hidden)]
     pub fn from_known(
         alloc: Global,
@@ -150,12 +154,12 @@ impl Object {
         Ok(Object { pairs })
     }
 
-    /// The allocator that the object was made with, for calls on its values and keys.
+    /// The allocator that the object was made with.
     pub fn allocator(&self) -> Global {
         self.pairs.allocator()
     }
 
-    /// The number of entries. By the clause `distinct` no key repeats.
+    /// The number of entries.
     pub fn len(&self) -> usize
         ensures len { result ≡ length (entries_of self.now) }
         ensures distinct { IsDistinct bytes_eq (keys_of (entries_of self.now)) }
@@ -177,8 +181,7 @@ impl Object {
         self.pairs.get(key)
     }
 
-    /// A mutable reference to the value of the key. `None` if the key is missing. A write through
-    /// it changes nothing else.
+    /// A mutable reference to the value of the key. `None` if the key is missing.
     pub fn get_mut(&mut self, key: &str) -> Option<&mut JsonValue>
         ensures* writes_back { sem 𝓛 (LendsIf the_row value_row self.entry result
             (λ w. with_entries (put key.now w (entries_of self.old))) self.old) }
@@ -187,9 +190,9 @@ impl Object {
         self.pairs.get_mut(key)
     }
 
-    /// A mutable reference to the value of the key. A missing key is first put last, with null. A
-    /// write through it changes nothing else. Fails with `OutOfMemory` only, and then nothing has
-    /// changed; a key that is present needs no allocation.
+    /// A mutable reference to the value of the key. A missing key is first put last, with null.
+    /// Fails with `OutOfMemory` only, and then nothing has changed; a present key needs no
+    /// allocation.
     pub fn at_mut(&mut self, alloc: Global, key: &str) -> Result<&mut JsonValue>
         ensures* writes_back { sem 𝓛 (LendsIfOk the_row value_row self.entry result
             (λ w. with_entries (put key.now w (entries_of self.old))) self.old) }
@@ -226,11 +229,11 @@ impl Object {
         self.pairs.override_last(value);
     }
 
-    /// Removes the entry of the key and returns its value. `None` if the key is missing. The other
-    /// entries keep their order. It allocates nothing.
+    /// Removes the entry of the key and returns its value. `None` if the key is missing. It
+    /// allocates nothing.
     ///
-    /// The entries after it move up, so the time of a call grows with the number of entries
-    /// (measured, not proved: docs/MEASURED.md).
+    /// Later entries move up, in order, so the time grows with the number of entries (measured, not
+    /// proved: docs/MEASURED.md).
     pub fn remove(&mut self, key: &str) -> Option<JsonValue>
         ensures value { result ≡ find key.now (entries_of self.old) }
         ensures after { entries_of self.new ≡ cut key.now (entries_of self.old) }
@@ -238,9 +241,9 @@ impl Object {
         self.pairs.remove(key)
     }
 
-    /// Keeps the entries for which `keep(key, value)` returns `true`, in their order. `keep` is
-    /// called once for each entry, in order, and may change the value. It must accept every entry,
-    /// as a closure without a `requires` does. It allocates nothing.
+    /// Keeps the entries for which `keep(key, value)` returns `true`, in order. `keep` is called
+    /// once for each entry, in order, and may change the value. It must accept every entry, as a
+    /// closure without a `requires` does. It allocates nothing.
     ///
     /// ```rust
     /// object.retain(|_key, value| !value.is_null());
@@ -268,28 +271,28 @@ impl Object {
         self.get(key).is_some()
     }
 
-    /// Iterates over the keys in order, from both ends.
+    /// Iterates over the keys in order.
     pub fn keys(&self) -> Keys<'_>
         ensures { result ≡ keys_of (entries_of self.now) }
     {
         self.pairs.keys()
     }
 
-    /// Iterates over the values in the order of their keys, from both ends.
+    /// Iterates over the values in the order of the entries.
     pub fn values(&self) -> Values<'_>
         ensures { iter_rest result ≡ values_of (entries_of self.now) }
     {
         self.pairs.values().iter()
     }
 
-    /// Iterates over the entries in order, from both ends.
+    /// Iterates over the entries in order.
     pub fn iter(&self) -> Iter<'_>
         ensures { result ≡ entries_of self.now }
     {
         self.pairs.iter()
     }
 
-    /// Iterates over the entries in order, from both ends, with mutable references to their values.
+    /// Iterates over the entries in order, with mutable references to their values.
     pub fn iter_mut(&mut self) -> IterMut<'_>
         ensures { iter_mut_rest result ≡ entries_of self.old }
     {
@@ -297,8 +300,8 @@ impl Object {
     }
 }
 
-/// Drops the values in a loop. The drop that the compiler writes would call a function for each
-/// value, even if the value owns nothing.
+/// Drops the values in a loop, because the drop that the compiler writes would call a function for
+/// each value, even if it owns nothing.
 impl Drop for Object {
     #[cycle(json)]
     fn drop(self) {
@@ -309,14 +312,15 @@ impl Drop for Object {
     }
 }
 
-/// Drops the elements of an array. Not inlined, so that an object without entries needs no call.
+/// Drops the elements of an array. Not inlined into the loop that calls it, so that an object without
+/// entries needs no call.
 #[inline(never)]
 #[cycle(json)]
 fn drop_items(items: Vec<JsonValue>) {
     drop_values(items);
 }
 
-/// Drops values, the last one first.
+/// Drops values, the last one first, without a call for those that own nothing.
 #[inline(always)]
 #[cycle(json)]
 fn drop_values(mut values: Vec<JsonValue>) {
@@ -333,7 +337,8 @@ fn drop_values(mut values: Vec<JsonValue>) {
     values.destroy_empty();
 }
 
-/// As `Object::from_pairs`.
+/// The object of these pairs: a later pair of a key replaces that key's value at its position. Fails
+/// with `AllocError`.
 impl<K: AsStr + Drop, V: IntoJson> FromIterator<(K, V)> for Object {
     type Alloc = Global;
 
@@ -415,7 +420,7 @@ impl ExactSizeIterator for IntoIter {
 
 impl FusedIterator for IntoIter {}
 
-/// Iterates over the entries in order, from both ends, and gives away their keys and values.
+/// Iterates over the entries in order, and gives away their keys and values.
 impl IntoIterator for Object {
     type Item = (Key, JsonValue);
 

@@ -1,4 +1,6 @@
-//! Reading values (docs/RULES.md, "Readers"). None of these calls allocates.
+//! Reading values (docs/RULES.md, "Readers"), without an allocation. In clauses `view` is what a
+//! value means, `entries` are those of an object and `items` the elements of an array, and `find`
+//! looks a key up.
 #![tactic(auto, using(crate::proofs::Values::Views::views, crate::proofs::Values::PartViews::seen))]
 
 ghost use Rattle.std.specs.Prelude.{◌≡◌, map, is_some, option_map};
@@ -18,10 +20,10 @@ use crate::value::JsonValue;
 use jzon_base::number::Number;
 use std::slice;
 
-/// Iterator over the elements of an array.
+/// Double-ended iterator over elements.
 pub type Members<'a> = slice::Iter<'a, JsonValue>;
 
-/// Iterator over the entries of an object, each as its key's text and its value.
+/// Double-ended iterator over entries, each as its key's text and its value.
 pub type Entries<'a> = object::Iter<'a>;
 
 impl JsonValue {
@@ -82,7 +84,7 @@ impl JsonValue {
         }
     }
 
-    /// The number of entries of an object or of elements of an array, and 0 for any other value.
+    /// The number of entries of an object or of elements of an array, else 0.
     pub fn len(&self) -> usize
         ensures { result ≡ count (view self.now) }
     {
@@ -93,7 +95,7 @@ impl JsonValue {
         }
     }
 
-    /// The string, however it is stored. `None` for any other value.
+    /// The string, however it is stored, else `None`.
     pub fn as_str(&self) -> Option<&str>
         ensures { option_copied result ≡ text_in (view self.now) }
     {
@@ -104,7 +106,7 @@ impl JsonValue {
         }
     }
 
-    /// The number, with its parts as they were parsed or set. `None` for any other value.
+    /// The number, with mantissa and exponent as they were parsed or set, else `None`.
     pub fn as_number(&self) -> Option<Number>
         ensures { result ≡ number_in (view self.now) }
     {
@@ -114,7 +116,7 @@ impl JsonValue {
         }
     }
 
-    /// The boolean. `None` for any other value.
+    /// The boolean, else `None`.
     pub fn as_bool(&self) -> Option<bool>
         ensures { result ≡ truth_in (view self.now) }
     {
@@ -124,7 +126,7 @@ impl JsonValue {
         }
     }
 
-    /// The object. `None` for any other value.
+    /// The object, else `None`.
     pub fn as_object(&self) -> Option<&Object>
         ensures { option_map (λ o. view_object o.now) result ≡ object_of (view self.now) }
     {
@@ -134,7 +136,7 @@ impl JsonValue {
         }
     }
 
-    /// The elements of the array. `None` for any other value.
+    /// The elements of an array, else `None`.
     pub fn as_array(&self) -> Option<&Vec<JsonValue>>
         ensures { option_map (λ vs. array (view_values vs.now.items)) result
             ≡ array_of (view self.now) }
@@ -145,7 +147,7 @@ impl JsonValue {
         }
     }
 
-    /// The value of the key of an object. `None` if the key is missing, and for any other value.
+    /// The value of an object's key. `None` if the key is missing, and for any other value.
     pub fn get(&self, key: &str) -> Option<&JsonValue>
         ensures { option_map (λ v. view v.now) result ≡ find key.now (entries (view self.now)) }
     {
@@ -159,8 +161,7 @@ impl JsonValue {
         self.get(key).is_some()
     }
 
-    /// Iterates over the elements of an array in order, from both ends; over nothing for any other
-    /// value.
+    /// Iterates over the elements of an array in order, else over nothing.
     ///
     /// ```rust
     /// for order in orders.members() {
@@ -176,8 +177,7 @@ impl JsonValue {
         }
     }
 
-    /// Iterates over the entries of an object in order, from both ends; over nothing for any other
-    /// value.
+    /// Iterates over the entries of an object in order, else over nothing.
     ///
     /// ```rust
     /// for (key, value) in config.entries() {
@@ -205,14 +205,14 @@ impl JsonValue {
         }
     }
 
-    /// Whether it is this string, however it is stored.
+    /// Whether it is the string `other`, however stored.
     pub fn eq_str(&self, other: &str) -> bool
         ensures { result ≡ same (view self.now) (text short other.now) }
     {
         self.as_str() == Some(other)
     }
 
-    /// Whether it is this boolean.
+    /// Whether it is the boolean `other`.
     pub fn eq_bool(&self, other: bool) -> bool
         ensures { result ≡ same (view self.now) (boolean other) }
     {

@@ -15,24 +15,23 @@ pub use readable::is_readable;
 /// A JSON value (RFC 8259, section 3).
 ///
 /// `==` compares what values mean: a `Short` equals a `String` of the same bytes, numbers are equal
-/// if they are the same decimal, NaN equals NaN, and the order of an object's entries doesn't
-/// count.
+/// if they are the same decimal, NaN equals NaN, and the order of entries doesn't count.
 #[cycle(json)]
 #[derive(Debug, Drop)]
 pub enum JsonValue {
     /// `null`.
     Null,
-    /// A string of at most `short::MAX_LEN` bytes, stored inline.
+    /// A string of at most `short::MAX_LEN` (30) bytes, stored inline.
     Short(Short),
-    /// An allocated string.
+    /// An allocated string, of any length.
     String(String),
-    /// A number, with its parts as they were parsed or set. NaN, which no text means, is written as
-    /// `null`.
+    /// A number, with mantissa and exponent as they were parsed or set. NaN, which no text means, is
+    /// written as `null`.
     Number(Number),
     /// `true` or `false`.
     Boolean(bool),
-    /// Entries, each a key and a value, in their order.
+    /// Entries in order, with distinct keys.
     Object(Object),
-    /// Elements, in their order.
+    /// Elements in order.
     Array(Vec<JsonValue>),
 }

@@ -1,6 +1,7 @@
-//! A value inside a value, which may be missing (docs/RULES.md, "Readers"). A `View` has the
-//! readers of `JsonValue`. In clauses `shown` is its value, if there is one, and `seen` is that
-//! value or else null.
+//! References to a value inside a value, which may be *missing* (docs/RULES.md, "Readers"). The readers
+//! of a `View` return what those of `JsonValue` do, and of a missing value what they return of null:
+//! `None`, `false`, 0 or nothing, and `true` from `is_null` and `is_empty`. In clauses `shown` is an
+//! `Option` of the value, and `seen` the value or else null.
 #![tactic(auto, using(crate::proofs::Values::Views::views, crate::proofs::Values::PartViews::seen))]
 
 ghost use Rattle.std.specs.Prelude.{◌≡◌, ◌<◌, ◌^◌, pos, map, is_some, option_map, slice_get, FitsSigned, Some};
@@ -22,8 +23,8 @@ use crate::readers::{Entries, Members};
 use crate::value::JsonValue;
 use jzon_base::number::Number;
 
-/// A reference to a value in a value, or missing. A missing view reads as null, so a chain of `at`
-/// and `at_index` needs no test between its links.
+/// A reference to a value, or missing. A missing view reads as null (`None`, `false`, 0), so a chain
+/// of `at` and `at_index` needs no test between its links.
 #[derive(Clone, Copy)]
 pub struct View<'a> {
     value: Option<&'a JsonValue>,
@@ -37,7 +38,7 @@ impl JsonValue {
         View { value: Some(self) }
     }
 
-    /// The value of the key of an object. Missing if the key is, and for any other value.
+    /// The value of an object's key. Missing if there is no such key, and for any other value.
     ///
     /// ```rust
     /// let is_named = data.at("name").eq_str("x");
@@ -64,7 +65,7 @@ impl JsonValue {
 }
 
 impl Object {
-    /// The value of the key, or missing if the key is.
+    /// The value of the key; missing if there is no such key.
     pub fn at(&self, key: &str) -> View<'_>
         ensures { shown result ≡ find key.now (viewed (entries_of self.now)) }
     {
@@ -74,7 +75,7 @@ impl Object {
 }
 
 impl<'a> View<'a> {
-    /// The value. `None` if it is missing.
+    /// The value; `None` if missing.
     pub fn value(self) -> Option<&'a JsonValue>
         ensures { option_map (λ v. view v.now) result ≡ shown self.entry }
     {
@@ -137,49 +138,49 @@ impl<'a> View<'a> {
         self.value.is_some_and(JsonValue::is_array)
     }
 
-    /// As `JsonValue::is_empty`. `true` if the value is missing.
+    /// As `JsonValue::is_empty`. `true` if missing.
     pub fn is_empty(self) -> bool
         ensures { result ≡ is_empty (seen self.entry) }
     {
         self.value.is_none_or(JsonValue::is_empty)
     }
 
-    /// As `JsonValue::len`. 0 if the value is missing.
+    /// As `JsonValue::len`. 0 if missing.
     pub fn len(self) -> usize
         ensures { result ≡ count (seen self.entry) }
     {
         self.value.map_or(0, JsonValue::len)
     }
 
-    /// As `JsonValue::as_str`. `None` if the value is missing.
+    /// As `JsonValue::as_str`. `None` if missing.
     pub fn as_str(self) -> Option<&'a str>
         ensures { option_copied result ≡ text_in (seen self.entry) }
     {
         self.value?.as_str()
     }
 
-    /// As `JsonValue::as_number`. `None` if the value is missing.
+    /// As `JsonValue::as_number`. `None` if missing.
     pub fn as_number(self) -> Option<Number>
         ensures { result ≡ number_in (seen self.entry) }
     {
         self.value?.as_number()
     }
 
-    /// As `JsonValue::as_bool`. `None` if the value is missing.
+    /// As `JsonValue::as_bool`. `None` if missing.
     pub fn as_bool(self) -> Option<bool>
         ensures { result ≡ truth_in (seen self.entry) }
     {
         self.value?.as_bool()
     }
 
-    /// As `JsonValue::as_object`. `None` if the value is missing.
+    /// As `JsonValue::as_object`. `None` if missing.
     pub fn as_object(self) -> Option<&'a Object>
         ensures { option_map (λ o. view_object o.now) result ≡ object_of (seen self.entry) }
     {
         self.value?.as_object()
     }
 
-    /// As `JsonValue::as_array`. `None` if the value is missing.
+    /// As `JsonValue::as_array`. `None` if missing.
     pub fn as_array(self) -> Option<&'a Vec<JsonValue>>
         ensures { option_map (λ vs. array (view_values vs.now.items)) result
             ≡ array_of (seen self.entry) }
@@ -194,14 +195,14 @@ impl<'a> View<'a> {
         self.at(key).value.is_some()
     }
 
-    /// As `JsonValue::members`. Over nothing if the value is missing.
+    /// As `JsonValue::members`. Over nothing if missing.
     pub fn members(self) -> Members<'a>
         ensures { map view (iter_rest result) ≡ items (seen self.entry) }
     {
         self.value.map_or([].iter(), JsonValue::members)
     }
 
-    /// As `JsonValue::entries`. Over nothing if the value is missing.
+    /// As `JsonValue::entries`. Over nothing if missing.
     pub fn entries(self) -> Entries<'a>
         ensures { viewed result ≡ entries (seen self.entry) }
     {
@@ -229,77 +230,77 @@ impl<'a> View<'a> {
         self.as_bool() == Some(other)
     }
 
-    /// As `JsonValue::as_u64`. `None` if the value is missing.
+    /// As `JsonValue::as_u64`. `None` if missing.
     pub fn as_u64(self) -> Option<u64>
         ensures { SomeWhere (unsigned_in (seen self.entry)) (λ n. n < 2 ^ 64) result }
     {
         self.value?.as_u64()
     }
 
-    /// As `JsonValue::as_u32`. `None` if the value is missing.
+    /// As `JsonValue::as_u32`. `None` if missing.
     pub fn as_u32(self) -> Option<u32>
         ensures { SomeWhere (unsigned_in (seen self.entry)) (λ n. n < 2 ^ 32) result }
     {
         self.value?.as_u32()
     }
 
-    /// As `JsonValue::as_u16`. `None` if the value is missing.
+    /// As `JsonValue::as_u16`. `None` if missing.
     pub fn as_u16(self) -> Option<u16>
         ensures { SomeWhere (unsigned_in (seen self.entry)) (λ n. n < 2 ^ 16) result }
     {
         self.value?.as_u16()
     }
 
-    /// As `JsonValue::as_u8`. `None` if the value is missing.
+    /// As `JsonValue::as_u8`. `None` if missing.
     pub fn as_u8(self) -> Option<u8>
         ensures { SomeWhere (unsigned_in (seen self.entry)) (λ n. n < 2 ^ 8) result }
     {
         self.value?.as_u8()
     }
 
-    /// As `JsonValue::as_usize`. `None` if the value is missing.
+    /// As `JsonValue::as_usize`. `None` if missing.
     pub fn as_usize(self) -> Option<usize>
         ensures { SomeWhere (unsigned_in (seen self.entry)) (λ n. n < 2 ^ 64) result }
     {
         self.value?.as_usize()
     }
 
-    /// As `JsonValue::as_i64`. `None` if the value is missing.
+    /// As `JsonValue::as_i64`. `None` if missing.
     pub fn as_i64(self) -> Option<i64>
         ensures { SomeWhere (integer_in (seen self.entry)) (FitsSigned w64) result }
     {
         self.value?.as_i64()
     }
 
-    /// As `JsonValue::as_i32`. `None` if the value is missing.
+    /// As `JsonValue::as_i32`. `None` if missing.
     pub fn as_i32(self) -> Option<i32>
         ensures { SomeWhere (integer_in (seen self.entry)) (FitsSigned w32) result }
     {
         self.value?.as_i32()
     }
 
-    /// As `JsonValue::as_i16`. `None` if the value is missing.
+    /// As `JsonValue::as_i16`. `None` if missing.
     pub fn as_i16(self) -> Option<i16>
         ensures { SomeWhere (integer_in (seen self.entry)) (FitsSigned w16) result }
     {
         self.value?.as_i16()
     }
 
-    /// As `JsonValue::as_i8`. `None` if the value is missing.
+    /// As `JsonValue::as_i8`. `None` if missing.
     pub fn as_i8(self) -> Option<i8>
         ensures { SomeWhere (integer_in (seen self.entry)) (FitsSigned w8) result }
     {
         self.value?.as_i8()
     }
 
-    /// As `JsonValue::as_isize`. `None` if the value is missing.
+    /// As `JsonValue::as_isize`. `None` if missing.
     pub fn as_isize(self) -> Option<isize>
         ensures { SomeWhere (integer_in (seen self.entry)) (FitsSigned w64) result }
     {
         self.value?.as_isize()
     }
 
-    /// As `JsonValue::as_fixed_point_u64`. `None` if the value is missing.
+    /// As `JsonValue::as_fixed_point_u64`. `None` if missing.
     pub fn as_fixed_point_u64(self, point: u16) -> Option<u64>
         ensures { SomeWhere (unsigned_fixed_point_in (seen self.entry) point)
             (λ n. n < 2 ^ 64) result }
@@ -307,14 +308,14 @@ impl<'a> View<'a> {
         self.value?.as_fixed_point_u64(point)
     }
 
-    /// As `JsonValue::as_fixed_point_i64`. `None` if the value is missing.
+    /// As `JsonValue::as_fixed_point_i64`. `None` if missing.
     pub fn as_fixed_point_i64(self, point: u16) -> Option<i64>
         ensures { SomeWhere (fixed_point_in (seen self.entry) point) (FitsSigned w64) result }
     {
         self.value?.as_fixed_point_i64(point)
     }
 
-    /// As `JsonValue::as_exact_fixed_point_u64`. `None` if the value is missing.
+    /// As `JsonValue::as_exact_fixed_point_u64`. `None` if missing.
     pub fn as_exact_fixed_point_u64(self, point: u16) -> Option<u64>
         ensures { SomeWhere (exact_unsigned_fixed_point_in (seen self.entry) point)
             (λ n. n < 2 ^ 64) result }
@@ -322,7 +323,7 @@ impl<'a> View<'a> {
         self.value?.as_exact_fixed_point_u64(point)
     }
 
-    /// As `JsonValue::as_exact_fixed_point_i64`. `None` if the value is missing.
+    /// As `JsonValue::as_exact_fixed_point_i64`. `None` if missing.
     pub fn as_exact_fixed_point_i64(self, point: u16) -> Option<i64>
         ensures { SomeWhere (exact_fixed_point_in (seen self.entry) point) (FitsSigned w64) result }
     {

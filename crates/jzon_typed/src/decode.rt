@@ -65,7 +65,8 @@ pub fn from_text<T: FromJson>(alloc: Global, text: &str) -> Result<T, Error>
     from_text_as(alloc, text, &Reading::LOSSLESS)
 }
 
-/// The value that a text means by `reading`, as this type.
+/// The value that a text means by `reading`, as this type. Each error has its line and column,
+/// unless memory runs out.
 #[tactic(auto, using(crate::proofs::DecodeSteps::of_text))]
 pub fn from_text_as<T: FromJson>(alloc: Global, text: &str, reading: &Reading) -> Result<T, Error>
     ensures value { IfOk result (λ x. MeansSome reading.now (chars text.now) (λ v. T.gives v x)) }

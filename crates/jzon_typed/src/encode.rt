@@ -1,6 +1,5 @@
-//! Writing numbers, strings, lists and structs as a value or a text: the other direction of `decode`.
-//!
-//! A writer takes its source by reference, and copies what a value must own.
+//! Writing numbers, strings, lists and structs as a value or a text: the other direction of
+//! `decode`.
 
 ghost use Rattle.std.specs.Prelude.{◌≡◌, IfOk, IsOkUnless, string_bytes};
 ghost use Rattle.jzon.specs.Value.{Value};
@@ -39,7 +38,7 @@ pub trait ToJson {
         ensures memory { IsOkUnless result Error.OutOfMemory };
 }
 
-/// The compact text of the source.
+/// The compact text of the source, with `null` for NaN.
 ///
 /// ```rust
 /// let written = encode::to_text(alloc, &fleet)?;
@@ -51,7 +50,8 @@ pub fn to_text<T: ToJson>(alloc: Global, source: &T) -> Result<String>
     source.to_json(alloc)?.dump(alloc)
 }
 
-/// The text of the source with a line for each element and entry, as `JsonValue::pretty` makes it.
+/// The text of the source with a line for each element and entry, after `spaces` spaces for each
+/// container around it.
 pub fn to_text_pretty<T: ToJson>(alloc: Global, source: &T, spaces: u16) -> Result<String> {
     source.to_json(alloc)?.pretty(alloc, spaces)
 }

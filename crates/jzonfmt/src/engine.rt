@@ -11,16 +11,15 @@ use std::alloc::{AllocError, Global};
 use std::io::{Read, Write};
 use std::{fmt, io, mem};
 
-/// The layouts that the arguments can choose.
+/// The layouts of the arguments.
 #[derive(Clone, Copy, Debug, PartialEq, Eq)]
 pub enum Layout {
     /// Without whitespace.
     Compact,
-    /// With lines, and this many spaces for each container around, as `JsonValue::pretty` has them.
+    /// On lines, indented by this many spaces a level, as by `JsonValue::pretty`.
     Pretty(u16),
 }
 
-/// How a text is read and printed.
 #[derive(Clone, Copy, Debug)]
 pub struct Options {
     pub reading: Reading,
@@ -30,21 +29,19 @@ pub struct Options {
 /// Why a text was not printed, or only in part.
 #[derive(Debug, Drop)]
 pub enum RunFault {
-    /// The reader failed with this error, an interruption included; or the arguments couldn't be
-    /// read.
+    /// The reader failed, an interruption included; or the arguments couldn't be read.
     Read(io::Error),
-    /// The input is not UTF-8.
     NotUtf8,
-    /// The text was rejected with this error.
+    /// The text was rejected.
     Json(Error),
-    /// The writer failed with this error.
+    /// The writer failed.
     Write(io::Error),
     /// An allocation failed.
     Memory,
 }
 
 impl RunFault {
-    /// The exit status (docs/JZONFMT.md).
+    /// The exit status (docs/JZONFMT.md): 1 for the input, 3 for the system.
     pub fn status(&self) -> u8
         ensures { result ≡ fault_status self.now }
     {
@@ -83,6 +80,7 @@ impl From<AllocError> for RunFault {
     }
 }
 
+/// A failed allocation becomes `Memory`: its status isn't that of a rejected text.
 impl From<Error> for RunFault {
     ghost use Rattle.std.specs.Prelude.{◌≡◌};
     ghost use Rattle.jzonfmt.specs.Run.{fault_of};
@@ -100,8 +98,8 @@ impl From<Error> for RunFault {
 /// How many bytes are read at once.
 const CHUNK_SIZE: usize = 65536;
 
-/// Reads one text by `reading`, and writes its value in `layout` and a newline. The reader is read
-/// to its end before anything is written, and its first error ends the run.
+/// Reads one text to the end, and then writes its value in `layout` and a newline. The reader's
+/// first error ends the run.
 pub fn run<R: Read, W: Write>(
     alloc: Global,
     reader: &mut R,
@@ -117,7 +115,7 @@ pub fn run<R: Read, W: Write>(
     print_input(alloc, input.as_slice(), writer, reading, layout)
 }
 
-/// Reads to the end, in chunks.
+/// All bytes of the reader, not by `read_to_end`, which reads on after an interruption, an error here.
 fn read_input<R: Read>(alloc: Global, reader: &mut R) -> Result<Vec<u8>, RunFault>
     ensures all { IfOk result
         (λ input. ReadsInput result (R.remaining reader.old) (R.remaining reader.new) input.items) }
@@ -136,15 +134,15 @@ fn read_input<R: Read>(alloc: Global, reader: &mut R) -> Result<Vec<u8>, RunFaul
     }
 }
 
-/// `count` zero bytes. Its contract keeps proofs from computing with all of them.
+/// `count` zero bytes, apart so that a proof sees only their number.
 fn zeros(alloc: Global, count: usize) -> Result<Vec<u8>, AllocError>
     ensures { IfOk result (λ bytes. vec_len bytes ≡ count) }
 {
     vec![in alloc; 0u8; count]
 }
 
-/// Prints the value of the JSON text in `input`. All memory is allocated before the first byte is
-/// written, so after any fault but the writer's nothing is written.
+/// Prints the value of the JSON text in `input`. All memory is allocated before the first write, so
+/// only a failed write leaves a part of the output.
 fn print_input<W: Write>(
     alloc: Global,
     input: &[u8],
@@ -160,13 +158,12 @@ fn print_input<W: Write>(
     };
     let value = jzon::parse_as(alloc, source, reading)?;
     let answer = write_line(writer, &value, layout);
-    // The program ends once the text is written, so dropping the value would cost time for nothing.
+    // The program ends now: dropping the value would only cost time.
     mem::forget(value);
     answer.map_err(RunFault::Write)
 }
 
-/// Writes the text of the value in the layout and a newline. After an error a prefix of them is
-/// written.
+/// Writes the text of the value in the layout and a newline; after an error, a prefix of them.
 fn write_line<W: Write>(writer: &mut W, value: &JsonValue, layout: Layout) -> io::Result<()>
     ensures { WritesWhole (output_line layout (view value.now)) result (W.contents writer.old)
         (W.contents writer.new) }
@@ -175,7 +172,7 @@ fn write_line<W: Write>(writer: &mut W, value: &JsonValue, layout: Layout) -> io
     util::write_bytes(writer, b"\n")
 }
 
-/// Writes the text of the value in this layout.
+/// Writes the text of the value in the layout; after an error, a prefix of it.
 fn write_text<W: Write>(writer: &mut W, value: &JsonValue, layout: Layout) -> io::Result<()>
     ensures { WritesWhole (text layout (view value.now)) result (W.contents writer.old)
         (W.contents writer.new) }
@@ -186,9 +183,9 @@ fn write_text<W: Write>(writer: &mut W, value: &JsonValue, layout: Layout) -> io
     }
 }
 
-/// The program, apart from where its arguments and streams come from. Flushes the writer after an
-/// `Ok`, writes the message of a fault to `faults`, and returns the exit status. A failed write of
-/// that message is ignored.
+/// The program, apart from where its arguments (`words`) and streams come from. Flushes the writer
+/// if `run` succeeds; else writes a message to `faults`, if that can be written. Returns the exit
+/// status: 0, 2 for wrong arguments, or that of the `RunFault`.
 pub fn drive<R: Read, W: Write, F: Write>(
     alloc: Global,
     words: &[String],
@@ -214,7 +211,7 @@ pub fn drive<R: Read, W: Write, F: Write>(
     }
 }
 
-/// The options that these arguments ask for, if they are right.
+/// The options that these arguments ask for; `None` if they are wrong.
 fn options_of(words: &[String]) -> Option<Options>
     ensures { result ≡ asked_options (map string_bytes words.now) }
 {
@@ -228,8 +225,8 @@ fn options_of(words: &[String]) -> Option<Options>
     Some(Options { reading, layout })
 }
 
-/// Whether `--strict` is the first argument, or the last of three; and the other arguments, which
-/// `layout_of` judges.
+/// Whether `--strict` is the first argument, or the last of three (after `--pretty N`); and the
+/// others.
 fn split_strict(words: &[String]) -> (bool, &[String])
     ensures { asked_options (map string_bytes words.now)
         ≡ option_map (asking result.0) (asked_layout (map string_bytes result.1.now)) }
@@ -241,7 +238,7 @@ fn split_strict(words: &[String]) -> (bool, &[String])
     }
 }
 
-/// The layout that these arguments ask for, without `--strict`.
+/// The layout that the arguments but `--strict` ask for; `None` if they are wrong.
 fn layout_of(words: &[String]) -> Option<Layout>
     ensures { result ≡ asked_layout (map string_bytes words.now) }
 {
@@ -254,19 +251,18 @@ fn layout_of(words: &[String]) -> Option<Layout>
     }
 }
 
-/// The number of spaces, of at most five digits and below 65536.
+/// The number of spaces, of at most five digits and below 65536; else `None`.
 fn spaces_of(word: &str) -> Option<u16>
     ensures { result ≡ asked_spaces word.now }
 {
-    // `parse` accepts a plus.
+    // `parse` alone would accept a plus.
     if word.len() > 5 || word.as_bytes().first().copied() == Some(b'+') {
         return None;
     }
     word.parse().ok()
 }
 
-/// Writes the fault's message and a newline, and returns its exit status. A failed write is
-/// ignored.
+/// Writes the fault's message, if that can be written, and returns its exit status.
 pub fn report<F: Write>(faults: &mut F, fault: &RunFault) -> u8
     ensures { result ≡ fault_status fault.now }
 {

@@ -12,7 +12,7 @@ use std::env;
 use std::io::{self, BufWriter};
 use std::process::ExitCode;
 
-/// How many bytes of the printed text are collected before standard output gets them.
+/// How many bytes of output are collected before standard output gets them.
 const BUFFER_SIZE: usize = 65536;
 
 fn main(rt: HostRuntime) -> ExitCode {
@@ -23,15 +23,15 @@ fn main(rt: HostRuntime) -> ExitCode {
     ExitCode::from(status)
 }
 
-/// Runs `engine::drive` on the standard streams, and returns the exit status.
+/// Runs `engine::drive` on the standard streams.
 fn drive_buffered(rt: &HostRuntime, words: &[String]) -> u8 {
     let mut faults = rt.stderr();
     let Ok(mut writer) = BufWriter::with_capacity(rt.alloc(), BUFFER_SIZE, rt.stdout()) else {
         return engine::report(&mut faults, &RunFault::Memory);
     };
     let status = engine::drive(rt.alloc(), words, &mut rt.stdin(), &mut writer, &mut faults);
-    // After a failed write, the drop of the `BufWriter` would write the rest once more, so its bytes
-    // are taken out.
+    // Takes the bytes out, since the drop of the `BufWriter` would write again what a failed write
+    // left.
     let _ = writer.into_parts();
     status
 }

@@ -1,5 +1,6 @@
-//! The program with each of its allocations failing in turn. ci/refuse.c makes them fail, and
-//! counts blocks: bin/test runs these tests once more with it.
+//! The program with each of its allocations failing in turn, by ci/refuse.c, which also counts
+//! blocks. bin/test runs these tests once more with it; without it no allocation fails. `Refusals`
+//! marks where a run begins and ends.
 
 use crate::engine;
 use crate::engine::RunFault;
@@ -10,7 +11,8 @@ use std::io::ErrorKind;
 use std::process::Abort;
 use std::test::Fail;
 
-/// Where the text is valid the value isn't dropped, as the process is about to end.
+/// Each of the 8 allocations of `run` fails once. Its value isn't dropped, so blocks aren't
+/// counted.
 #[test]
 fn run_under_refusals(rt: HostRuntime) -> Result<(), Fail> {
     let alloc = rt.alloc();
@@ -32,8 +34,8 @@ fn run_under_refusals(rt: HostRuntime) -> Result<(), Fail> {
     Ok(())
 }
 
-/// An input whose value takes no memory, or that is rejected; the status, what is written to
-/// standard output and to standard error, and the number of allocations.
+/// An input whose value takes no memory, or that is rejected; the status, the output, the message,
+/// and the number of allocations.
 type Driven = (&'static [u8], u8, &'static [u8], &'static [u8], usize);
 
 const DRIVEN: &[Driven] = &[
@@ -48,7 +50,7 @@ const DRIVEN: &[Driven] = &[
     (b"[\"\xff\"]", 1, b"", b"jzonfmt: input is not UTF-8\n", 2),
 ];
 
-/// One run of `engine::drive`. Whether an allocation failed.
+/// One run of `engine::drive`; whether an allocation failed.
 fn drive(
     rt: &impl Abort,
     alloc: Global,
@@ -70,7 +72,8 @@ fn drive(
     Ok(has_failed)
 }
 
-/// Runs `drive` with the first allocation failing, then the second, until none fails.
+/// Runs `drive` with the first allocation failing, then the second, until none fails; each run
+/// drops all that it allocates.
 fn drive_each(rt: &(impl Eprint + Abort), alloc: Global, row: &Driven) -> Result<(), Fail> {
     let mut refusals = Refusals::new(alloc);
     for _ in 0..RUNS_MAX {
@@ -85,7 +88,7 @@ fn drive_each(rt: &(impl Eprint + Abort), alloc: Global, row: &Driven) -> Result
     Ok(())
 }
 
-/// Each run drops all that it allocates.
+/// Each allocation of each row fails once.
 #[test]
 fn drive_under_refusals(rt: HostRuntime) -> Result<(), Fail> {
     for row in DRIVEN {
@@ -94,10 +97,10 @@ fn drive_under_refusals(rt: HostRuntime) -> Result<(), Fail> {
     Ok(())
 }
 
-/// More than the input and the chunk of a run take.
+/// In bytes: more than the input and the chunk of a run take.
 const MOST_OF_FAILED: usize = 1 << 20;
 
-/// A run on a writer that fails at this call.
+/// A run whose writer fails at this call, counted from 1.
 fn fail_at(rt: &impl Abort, alloc: Global, call: usize) {
     let mut reader: &[u8] = b"-12.50e3";
     let mut writer = SlowWriter::new(alloc, call, Trouble::Fails(ErrorKind::BrokenPipe));

@@ -19,7 +19,7 @@ const TEXT: &[u8] = b"-12.50e3";
 
 const PRINTED: &[u8] = b"-12500\n";
 
-/// Gives one byte a call, and fails at one call with the error of this trouble.
+/// Gives one byte a call; the call `fails_at`, counted from 1, fails with `trouble`.
 #[derive(Drop)]
 struct FailingReader<'a> {
     rest: &'a [u8],
@@ -75,39 +75,34 @@ impl io::Write for CountingWriter {
     }
 }
 
-/// The arguments, with a comma between them, the input, the status, and what is written to standard
-/// output and to standard error.
+/// The arguments with commas between them, the input, the status, the output and the message.
 type Row<'a> = (Option<&'a str>, &'a [u8], u8, &'a str, &'a str);
 
-/// An input that is accepted, without arguments, and the output.
 macro_rules! done {
     ($input:expr, $output:expr $(,)?) => {
         (None, $input, 0, $output, "")
     };
 }
 
-/// An input that is rejected, without arguments, and the message.
 macro_rules! rejected {
     ($input:expr, $message:expr $(,)?) => {
         (None, $input, 1, "", $message)
     };
 }
 
-/// The arguments, an input that is accepted, and the output.
 macro_rules! done_with {
     ($words:expr, $input:expr, $output:expr $(,)?) => {
         (Some($words), $input, 0, $output, "")
     };
 }
 
-/// Arguments that are rejected.
 macro_rules! misused {
     ($words:expr) => {
         (Some($words), TEXT, 2, "", "jzonfmt: usage: jzonfmt [--strict] [--pretty N]\n")
     };
 }
 
-/// The arguments of a row: those between the commas, or none.
+/// The arguments of a row.
 fn words_of(alloc: Global, words: Option<&str>) -> Result<Vec<String>, Fail> {
     let mut all = Vec::new(alloc);
     if let Some(words) = words {
@@ -118,7 +113,7 @@ fn words_of(alloc: Global, words: Option<&str>) -> Result<Vec<String>, Fail> {
     Ok(all)
 }
 
-/// It holds of this row. To prove an assertion takes seconds, and a call of this hardly any time.
+/// Asserts `holds`, with the message `row`. A call is proved much faster than an assertion.
 pub(crate) fn expect(rt: &impl Abort, row: &str, holds: bool) {
     assert!(rt; holds, "{row}");
 }
@@ -133,7 +128,7 @@ fn slow(alloc: Global) -> SlowWriter {
     SlowWriter::new(alloc, NO_FAILING_CALL, Trouble::TakesNothing)
 }
 
-/// With the row's arguments and input the program gives the row's status, output and message.
+/// The program gives the row's status, output and message.
 fn expect_driven(rt: &impl Abort, alloc: Global, row: &Row<'_>) -> Result<(), Fail> {
     let (words, input, status, output, message) = *row;
     let words = words_of(alloc, words)?;
@@ -157,7 +152,7 @@ fn expect_rows(rt: &impl Abort, alloc: Global, rows: &[Row<'_>]) -> Result<(), F
     Ok(())
 }
 
-/// Inputs and arguments of the statuses 0, 1 and 2. For 3 something must fail: see below.
+/// Inputs and arguments of the statuses 0, 1 and 2; for 3 a reader or a writer must fail.
 const LINES_AND_STATUSES: &[Row<'static>] = &[
     done!(TEXT, "-12500\n"),
     done!(b" \t\r\n\x0b\x0cnull \n", "null\n"),
@@ -232,7 +227,6 @@ const REPEATED: &str = "jzonfmt: Duplicate key at (1:8)\n";
 
 const TWICE: &[u8] = b"{\"a\":1,\"a\":2}";
 
-/// The forms of `--strict`, beside those of `--pretty`.
 const STRICT: &[Row<'static>] = &[
     (Some("--strict"), TWICE, 1, "", REPEATED),
     done!(TWICE, "{\"a\":2}\n"),
@@ -261,7 +255,7 @@ pub(crate) fn run<R: Read, W: Write>(
     engine::run(alloc, reader, writer, &usual(), Layout::Compact)
 }
 
-/// `run` fails with this error of the text, and writes nothing.
+/// `run` rejects the text with this message, and writes nothing.
 fn expect_fault(rt: &impl Abort, alloc: Global, input: &[u8], message: &str) -> Result<(), Fail> {
     let (mut reader, mut writer) = (input, slow(alloc));
     match run(alloc, &mut reader, &mut writer) {
@@ -275,7 +269,7 @@ fn expect_fault(rt: &impl Abort, alloc: Global, input: &[u8], message: &str) -> 
     Ok(())
 }
 
-/// `run` reads all of the input, and prints this text and a newline. How often it writes.
+/// The whole input is read, and this text and a newline are printed. Returns the number of writes.
 fn expect_printed(
     rt: &impl Abort,
     alloc: Global,
@@ -295,7 +289,6 @@ fn expect_printed(
     Ok(writer.calls)
 }
 
-/// The text is printed as it is.
 fn expect_itself(rt: &impl Abort, alloc: Global, text: &str) -> Result<(), Fail> {
     expect_printed(rt, alloc, Layout::Compact, text, text)?;
     Ok(())
@@ -312,8 +305,8 @@ fn every_prefix_of_a_document_ends_early(rt: HostRuntime) -> Result<(), Fail> {
     Ok(())
 }
 
-/// How a number begins, what is repeated how often, how it ends, and how it is printed. Of 32,785
-/// zeros after an 8, 18 are kept and 32,767 dropped, the limit.
+/// The start of a number, what is repeated how often, the end, and what is printed. Of 32,785 zeros
+/// after an 8, 18 are kept and 32,767 dropped, the limit.
 const LONG_NUMBERS: &[(&str, &str, usize, &str, &str)] = &[
     ("1e", "9", 1000000, "", "1e32767"),
     ("1e-", "9", 1000000, "", "1e-32768"),
@@ -340,6 +333,7 @@ fn prints_512_open_containers(rt: HostRuntime) -> Result<(), Fail> {
     expect_itself(&rt, rt.alloc(), text.as_str())
 }
 
+/// Keys in the order of their hashes, then keys of one hash.
 #[test]
 fn prints_hostile_keys(rt: HostRuntime) -> Result<(), Fail> {
     let alloc = rt.alloc();
@@ -349,7 +343,7 @@ fn prints_hostile_keys(rt: HostRuntime) -> Result<(), Fail> {
     expect_itself(&rt, alloc, text.as_str())
 }
 
-/// How a text begins, what is repeated how often, what comes after it, and how many brackets close.
+/// The start of a text, what is repeated how often, what comes next, and how many brackets close.
 const OVER_A_LIMIT: &[(&str, &str, usize, &str, usize)] = &[
     ("8", "0", 32786, "", 0),
     ("0.", "0", 40000, "", 0),
@@ -357,7 +351,7 @@ const OVER_A_LIMIT: &[(&str, &str, usize, &str, usize)] = &[
     ("", "[", 512, "{\"a\":1}", 512),
 ];
 
-/// The text exceeds a limit.
+/// The text exceeds a limit, in `run` and in `drive`.
 fn expect_over_a_limit(rt: &impl Abort, alloc: Global, text: &str) -> Result<(), Fail> {
     expect_fault(rt, alloc, text.as_bytes(), "Exceeded depth limit")?;
     let message = "jzonfmt: Exceeded depth limit\n";
@@ -379,6 +373,7 @@ fn rejects_what_exceeds_the_limits(rt: HostRuntime) -> Result<(), Fail> {
     Ok(())
 }
 
+/// The first three end before, at and after the end of a chunk of 65,536 bytes.
 #[test]
 fn reads_inputs_round_a_chunk(rt: HostRuntime) -> Result<(), Fail> {
     for spaces in [65531, 65532, 65533, 131072, 200000] {
@@ -407,7 +402,7 @@ fn expect_read_error(
     Ok(())
 }
 
-/// What a reader gives byte by byte is printed, and its end is found once.
+/// Input read byte by byte is printed as this text, and its end is found once.
 fn expect_read_by_bytes(
     rt: &impl Abort,
     alloc: Global,
@@ -426,7 +421,7 @@ fn expect_read_by_bytes(
 #[test]
 fn a_reader_fails_at_each_call(rt: HostRuntime) -> Result<(), Fail> {
     for trouble in FAILURES {
-        // One call more than there are bytes, since the last one finds the end.
+        // The last call finds the end.
         for call in 1..=TEXT.len() + 1 {
             expect_read_error(&rt, rt.alloc(), TEXT, call, *trouble)?;
         }
@@ -484,9 +479,9 @@ fn a_writer_fails_at_each_call(rt: HostRuntime) -> Result<(), Fail> {
     Ok(())
 }
 
-/// How a text begins, what is repeated how often, and how it ends. `write` collects 1,024 bytes: the
-/// first three texts have one fewer, as many, and one more, and a string of 1,022 bytes fills the
-/// buffer with its quotes.
+/// The start of a text, what is repeated how often, and the end. `write` collects 1,024 bytes: the
+/// first three texts have one fewer, as many, and one more, and 1,022 bytes with their quotes fill
+/// the buffer.
 const ROUND_A_BUFFER: &[(&str, &str, usize, &str)] = &[
     ("[", "1234567,", 127, "76543]"),
     ("[", "1234567,", 127, "765432]"),
@@ -500,10 +495,10 @@ const ROUND_A_BUFFER: &[(&str, &str, usize, &str)] = &[
     ("{\"a\":[\"", "p", 5000, "\\u0001\",true]}"),
 ];
 
-/// The last byte of a full buffer, bytes of the next, and the newline, whichever text it follows.
+/// The first call, that for the last byte of a full buffer, two after it, and the last.
 const LATE_CALLS: &[usize] = &[1, 1024, 1025, 1026, usize::MAX];
 
-/// The writer fails at each of these calls, or at the last one.
+/// The writer fails at each of `LATE_CALLS`, or at its last.
 fn expect_late_errors(rt: &impl Abort, alloc: Global, text: &[u8]) -> Result<(), Fail> {
     for call in LATE_CALLS {
         let call = (*call).min(text.len() + 1);
@@ -514,8 +509,6 @@ fn expect_late_errors(rt: &impl Abort, alloc: Global, text: &[u8]) -> Result<(),
     Ok(())
 }
 
-/// Also with a writer that fails at the last byte of a full buffer, at one of the next, or at the
-/// newline.
 #[test]
 fn writes_texts_round_a_full_buffer(rt: HostRuntime) -> Result<(), Fail> {
     let alloc = rt.alloc();
@@ -540,16 +533,15 @@ fn prints_more_lines_than_the_buffer_holds(rt: HostRuntime) -> Result<(), Fail> 
     Ok(())
 }
 
-/// A layout, how a text of it begins, what is repeated, how it ends, and the calls of the writer:
-/// 200,003 bytes by 1,024, or 400,006, and the newline. A string longer than the buffer is passed on
-/// whole, between what is before and behind it.
+/// A layout, the start of a text, what is repeated 100,000 times, the end, and the writes: of
+/// 200,003 or 400,006 bytes by 1,024, and the newline. A string of more than 1,024 bytes is passed
+/// on whole.
 const SELDOM: &[(Layout, &str, &str, &str, usize)] = &[
     (Layout::Compact, "[1", ",1", "]", 197),
     (Layout::Pretty(1), "[\n 1", ",\n 1", "\n]", 392),
     (Layout::Compact, "[\"", "p", "\"]", 4),
 ];
 
-/// A full buffer of `write` is written at once.
 #[test]
 fn writes_seldom(rt: HostRuntime) -> Result<(), Fail> {
     let alloc = rt.alloc();
@@ -561,7 +553,6 @@ fn writes_seldom(rt: HostRuntime) -> Result<(), Fail> {
     Ok(())
 }
 
-/// The message after a failed write or flush.
 pub(crate) const NOT_WRITTEN: &str = "jzonfmt: writing failed\n";
 
 /// Without arguments `drive` returns this status, and writes this message.
@@ -598,7 +589,7 @@ fn drive_reports_a_writer_that_fails(rt: HostRuntime) {
     expect(&rt, "the calls", (writer.calls, writer.flushes) == (3, 0));
 }
 
-/// The flush has this trouble, and there is no other flush.
+/// `drive` flushes once, with this trouble, if any.
 fn expect_one_flush(
     rt: &impl Abort,
     alloc: Global,
@@ -613,8 +604,7 @@ fn expect_one_flush(
     expect(rt, "the flushes", writer.flushes == 1);
 }
 
-/// A flush that fails is a failed write, whatever its error: also an interruption, or the end of a
-/// pipe.
+/// A flush that fails is a failed write, whatever its error.
 #[test]
 fn drive_flushes_once(rt: HostRuntime) {
     expect_one_flush(&rt, rt.alloc(), None, 0, "");
@@ -623,6 +613,7 @@ fn drive_flushes_once(rt: HostRuntime) {
     }
 }
 
+/// The message fails at its fourth byte.
 #[test]
 fn a_failed_message_is_ignored(rt: HostRuntime) -> Result<(), Fail> {
     let alloc = rt.alloc();
@@ -642,7 +633,8 @@ fn a_failed_message_is_ignored(rt: HostRuntime) -> Result<(), Fail> {
     Ok(())
 }
 
-/// The arguments, the input, and the output.
+/// The arguments, the input, and the output: a start, then pieces, how often each comes, and what
+/// follows it.
 const LARGE: &[(&str, Long, Long)] = &[
     (
         "--strict",

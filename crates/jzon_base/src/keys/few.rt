@@ -1,4 +1,5 @@
-//! Keys without an index are compared one by one.
+//! Few keys, without an index. To find repeated ones, each sets a bit that depends on its text, and
+//! is compared with those before it only if the bit was set.
 ghost use Rattle.std.specs.Prelude.{◌≡◌, ◌<◌, ◌≤◌, ◌-◌, ◌&&◌, not, length, IsTrue, ◌↔◌, slice_index};
 ghost use Rattle.std.specs.List.{list_any, position, IsDistinct};
 ghost use Rattle.std.specs.Str.{bytes_eq};
@@ -7,16 +8,16 @@ ghost use Rattle.jzon_base.specs.Private.Filter.{word_bit_of};
 use super::filter::Filter;
 use crate::key::Key;
 
-/// Up to how many keys are few: one filter is enough for them.
+/// Up to this many keys have no index.
 pub const LINEAR_MAX: usize = 32;
 
-/// Up to how many keys each is compared with each other.
+/// Up to this many keys are compared pair by pair, without bits.
 const PAIRS_MAX: usize = 4;
 
-/// Up to how many keys one word of bits finds those that may repeat.
+/// Up to this many keys, one 64-bit word has bits enough.
 const ONE_WORD_MAX: usize = 16;
 
-/// Whether texts have the same bytes.
+/// Whether texts are equal, by a call, which `are_equal` seldom needs.
 #[inline(never)]
 fn have_same_bytes(a: &str, b: &str) -> bool
     ensures { result ≡ bytes_eq a.now b.now }
@@ -32,8 +33,7 @@ pub fn last_byte(text: &str) -> u8
     text.as_bytes().last().copied().unwrap_or(0)
 }
 
-/// Whether texts are equal. Most unequal ones differ in length or in the last byte; only others
-/// cost a call.
+/// Whether texts are equal. Most unequal ones differ in length or last byte.
 #[inline(always)]
 #[tactic(auto, using(crate::proofs::KeyIndex::Indexes::other_last))]
 fn are_equal(a: &str, b: &str) -> bool
@@ -42,7 +42,7 @@ fn are_equal(a: &str, b: &str) -> bool
     a.len() == b.len() && last_byte(a) == last_byte(b) && have_same_bytes(a, b)
 }
 
-/// The position of the key with this name.
+/// The position of the key with this name, or `None`.
 #[inline(always)]
 pub fn position(keys: &[Key], name: &str) -> Option<usize>
     ensures { result ≡ position (λ k. bytes_eq k name.now) keys.now }
@@ -50,7 +50,7 @@ pub fn position(keys: &[Key], name: &str) -> Option<usize>
     keys.iter().position(|key| are_equal(key.as_str(), name))
 }
 
-/// Whether a key has this name. Not inlined, because few names share a bit.
+/// Whether a key has this name. Not inlined, because it is called only if the name's bit was set.
 #[inline(never)]
 pub fn has_name(keys: &[Key], name: &str) -> bool
     ensures { result ≡ list_any (λ k. bytes_eq k name.now) keys.now }
@@ -91,8 +91,7 @@ fn four_differ(a: &Key, b: &Key, c: &Key, d: &Key) -> bool
     three_differ(a, b, c) && differs_from_three(d, a, b, c)
 }
 
-/// `are_distinct` of up to `PAIRS_MAX` keys. Most differ in length or in the last byte, so all
-/// pairs take fewer steps than bits do.
+/// Whether none of up to `PAIRS_MAX` keys repeats: all pairs take fewer steps than bits do.
 #[inline(always)]
 fn are_few_distinct(keys: &[Key]) -> bool
     requires { length keys.now ≤ PAIRS_MAX }
@@ -106,7 +105,7 @@ fn are_few_distinct(keys: &[Key]) -> bool
     }
 }
 
-/// `are_distinct` of more than `ONE_WORD_MAX` keys.
+/// Whether no key repeats, by the bits of a `Filter`.
 #[inline(never)]
 fn are_distinct_by_filter(keys: &[Key]) -> bool
     ensures { IsTrue result ↔ IsDistinct bytes_eq keys.now }
@@ -120,7 +119,7 @@ fn are_distinct_by_filter(keys: &[Key]) -> bool
     true
 }
 
-/// The number of a key's bit in a word, by its length, its first byte and its last.
+/// Which bit of a word a key sets, by its length, its first byte and its last; any other would do.
 #[inline(always)]
 #[tactic(auto, unfolding(crate::specs::Private::Filter::word_bit_of))]
 fn bit_of(name: &str) -> usize
@@ -135,8 +134,7 @@ fn bit_of(name: &str) -> usize
     (len % 4 * 16 + usize::from(bytes[0]) + usize::from(bytes[len - 1]) * 2) % 64
 }
 
-/// Whether no key repeats. A key is compared with those before it only if one of them may have set
-/// its bit. One word has bits enough for few keys.
+/// Whether no key repeats, by pairs, by the bits of one word, or by a filter.
 #[inline(always)]
 pub fn are_distinct(keys: &[Key]) -> bool
     ensures { IsTrue result ↔ IsDistinct bytes_eq keys.now }

@@ -10,14 +10,14 @@ use crate::key::Key;
 /// How many bits the filter has, in words of 64.
 const BITS: usize = 256;
 
-/// `BITS` bits. Each key sets one of them, and equal keys set the same.
+/// Each key sets one of `BITS` bits, equal keys the same: a name whose bit isn't set is no key.
 #[derive(Drop)]
 pub struct Filter {
     words: [u64; 4],
 }
 
 /// The number of a key's bit, by its length, its first byte and its last two (of a key of one byte,
-/// this byte). With other factors, only more or fewer keys would be compared.
+/// this byte). Other factors would change only how many keys are compared.
 #[inline(always)]
 #[tactic(auto, unfolding(crate::specs::Private::Filter::bit_of))]
 fn bit_of(name: &str) -> usize
@@ -42,7 +42,7 @@ impl Filter {
         Filter { words: [0; 4] }
     }
 
-    /// Sets the bit of a name. Returns whether it was set before, by this name or by another.
+    /// Sets the bit of a name. Returns whether it was set before, by any name.
     #[inline(always)]
     fn set_bit(&mut self, name: &str) -> bool
         ensures known { HasBit self.old.words name.now → result ≡ true }

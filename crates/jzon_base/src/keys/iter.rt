@@ -9,7 +9,7 @@ use std::iter::FusedIterator;
 use std::marker::Model;
 use std::slice;
 
-/// The keys that are left, each by its text.
+/// The keys that are still to come.
 #[derive(Drop)]
 pub struct Iter<'a> {
     keys: slice::Iter<'a, Key>,
@@ -28,7 +28,7 @@ impl<'a> Iter<'a> {
         Iter { keys: keys.iter() }
     }
 
-    /// No key: for an object that has no box yet.
+    /// No key: for `Pairs` that have no box yet.
     pub fn empty() -> Iter<'a>
         ensures { result ≡ [] }
     {

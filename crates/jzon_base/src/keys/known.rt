@@ -1,8 +1,8 @@
-//! Whether a name repeats a key before it, for keys that are in a vector of the caller. A strict
-//! reading asks this before it adds a key.
+//! Finds repeated keys while an object is read: a strict reading, a setting of the parser, asks
+//! before it adds a key to its vector.
 //!
-//! Up to `LINEAR_MAX` keys have a filter. More have an index, which becomes the object's index: so
-//! n keys take about n (log n)^2 comparisons, whatever the keys are.
+//! Up to `LINEAR_MAX` keys have a filter. More have an index, which becomes the object's: so n keys
+//! take about n (log n)^2 comparisons, whatever they are.
 ghost use Rattle.std.specs.Prelude.{◌≡◌, ◌++◌, ◌∷◌, [], true, false, is_some, IfOk, OnErr, List, ℕ};
 ghost use Rattle.std.specs.List.{position};
 ghost use Rattle.std.specs.Str.{bytes_eq};
@@ -16,17 +16,17 @@ use super::{add_entry, search};
 use crate::key::Key;
 use std::alloc::{AllocError, Global};
 
-/// What is known of the distinct keys of a vector of the caller.
-///
-/// The index is in a box, so that `KnownKeys` is small.
+/// The filter or the index of distinct keys, which are in a vector of the caller. The box keeps
+/// `KnownKeys` small.
 #[derive(Drop)]
 pub enum KnownKeys {
     Few(Filter),
     Indexed(Box<Runs>),
 }
 
-/// Whether there is a key of this name. If not, its index entry is added, and the caller puts the
-/// key after these. After an error the index is empty or that of these keys.
+/// Whether one of at least `LINEAR_MAX` keys has this name. If not, its entry is added to `index`
+/// (with those of all keys, if it is empty), and the caller pushes the key. After an error `index`
+/// is empty or that of `keys`.
 fn has_or_indexes(
     alloc: Global,
     keys: &[Key],
@@ -51,15 +51,15 @@ fn has_or_indexes(
 }
 
 impl KnownKeys {
-    /// What is known of no keys. Takes no memory.
+    /// No key is known. Allocates nothing.
     pub fn new() -> KnownKeys
         ensures { Knows [] result }
     {
         KnownKeys::Few(Filter::new())
     }
 
-    /// Whether there is a key of this name. If not, the name is known from now on, and the caller
-    /// puts its key after these. After an error exactly these keys are known, as before.
+    /// Whether a key has this name. If not, it is known from now on, and the caller pushes its key.
+    /// After an error exactly `keys` are known.
     pub fn has_or_notes(
         &mut self,
         alloc: Global,
@@ -79,7 +79,7 @@ impl KnownKeys {
                 if keys.len() < LINEAR_MAX {
                     return Ok(filter.has_or_notes(keys, name));
                 }
-                // Empty here: `add_entry` fills it with the entries of all keys.
+                // Empty: `has_or_indexes` adds all keys.
                 let mut index = Box::new(alloc, Runs::new(alloc))?;
                 let known = has_or_indexes(alloc, keys, &mut index, name)?;
                 *self = KnownKeys::Indexed(index);

@@ -1,4 +1,4 @@
-//! Keys and values that are kept, and the index of the keys that are left.
+//! Removes the entries that a closure rejects, and their keys from the index.
 ghost use Rattle.std.specs.Prelude.{◌≡◌, length};
 ghost use Rattle.std.specs.List.{zip};
 ghost use Rattle.std.specs.Map.Calls.{CalledAtPair, CallableOnEachPair, RetainsPairs, TakesPair};
@@ -6,8 +6,8 @@ ghost use Rattle.std.specs.Map.Calls.{CalledAtPair, CallableOnEachPair, RetainsP
 use super::Keys;
 use crate::key::Key;
 
-/// Whether `keep` keeps this entry, whose value it may change. A function of its own, so that the
-/// proof of the loop speaks of keys and values, and not of references.
+/// Whether `keep` keeps this entry, whose value it may change. A function, so that the proof of the
+/// loop speaks of keys and values, not references.
 #[inline(always)]
 fn keeps<V: Drop, F: FnMut(&str, &mut V) -> bool>(keep: &mut F, key: &str, value: &mut V) -> bool
     requires { TakesPair F.FnMut keep.old key.now value.old }
@@ -16,7 +16,7 @@ fn keeps<V: Drop, F: FnMut(&str, &mut V) -> bool>(keep: &mut F, key: &str, value
     keep(key, value)
 }
 
-/// As `retain`, without the index.
+/// Keeps the keys and values for which `keep` returns `true`, in their order.
 fn retain_entries<V: Drop, F: FnMut(&str, &mut V) -> bool>(
     keys: &mut Vec<Key>,
     values: &mut Vec<V>,
@@ -29,7 +29,7 @@ fn retain_entries<V: Drop, F: FnMut(&str, &mut V) -> bool>(
     ensures kept { RetainsPairs (CalledAtPair F.FnMut) keep (zip keys.old.items values.old.items)
         (zip keys.new.items values.new.items) }
 {
-    // The first `kept` entries are those kept so far; the others come after them, in any order.
+    // The first `kept` entries are those kept so far.
     let mut kept = 0;
     for at in 0..keys.len() {
         if keeps(&mut keep, keys[at].as_str(), &mut values[at]) {
@@ -43,8 +43,8 @@ fn retain_entries<V: Drop, F: FnMut(&str, &mut V) -> bool>(
 }
 
 impl Keys {
-    /// Keeps the keys and the values for which `keep` returns `true`, in their order. If a key is
-    /// removed, the index is made again, in its old room. Takes no memory.
+    /// Keeps the entries for which `keep`, called once for each in order, returns `true`. If one is
+    /// removed, the index is made again, in its old room. Allocates nothing.
     pub fn retain<V: Drop, F: FnMut(&str, &mut V) -> bool>(&mut self, values: &mut Vec<V>, keep: F)
         requires even { length values.old.items ≡ length self.old }
         requires callable { CallableOnEachPair (CalledAtPair F.FnMut) (TakesPair F.FnMut) keep

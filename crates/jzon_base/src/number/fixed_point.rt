@@ -1,6 +1,7 @@
-//! Numbers as fixed-point integers (docs/RULES.md, "Fixed-point readings"): `mantissa * 10 ^
-//! (exponent + point)`, so that `point` is the number of decimal places that are kept. If it is at
-//! most 32768, `-point` is an exponent (clauses `equal`).
+//! Numbers as fixed-point integers (docs/RULES.md, "Fixed-point readings"):
+//! `mantissa * 10 ^ (exponent + point)`, so that `point` is the number of decimal places that are
+//! kept. By the contract lines `equal`, the integer with exponent `-point`, if that is an `i16`,
+//! equals the number.
 
 ghost use Rattle.std.specs.Prelude.{◌≡◌, pos, ◌/◌, ◌%◌, ◌==◌, ◌+ℤ◌, ◌<◌, ◌≤◌, ◌^◌, FitsSigned, IfSome, IsTrue, true};
 ghost use Rattle.std.specs.Int.{w64};
@@ -11,9 +12,9 @@ use super::to_integer::with_sign;
 use super::{Number, times_power};
 
 impl Number {
-    /// The number times `10 ^ point`, truncated to an integer: at point 2, the number of decimal
-    /// places of an amount in euros, 5.99 is 599 and 12.301 is 1230. `None` for NaN, for a negative
-    /// sign, even of -0, and if it doesn't fit.
+    /// The number times `10 ^ point`, truncated to an integer: at point 2, the decimal places of
+    /// euros, 5.99 is 599 and 12.301 is 1230. `None` for NaN, for a negative sign, even of -0, and
+    /// if it doesn't fit.
     pub fn as_fixed_point_u64(&self, point: u16) -> Option<u64>
         ensures { SomeWhere (unsigned_fixed_point self.now point) (λ n. n < 2 ^ 64) result }
     {
@@ -24,8 +25,8 @@ impl Number {
         whole_part(mantissa, exponent, point)
     }
 
-    /// The number times `10 ^ point`, truncated to an integer before the sign is applied: at point
-    /// 1, -12.39 is -123. `None` for NaN, and if it doesn't fit.
+    /// The number times `10 ^ point`, truncated before the sign is applied: at point 1, -12.39 is
+    /// -123. `None` for NaN, and if it doesn't fit.
     pub fn as_fixed_point_i64(&self, point: u16) -> Option<i64>
         ensures { SomeWhere (fixed_point self.now point) (FitsSigned w64) result }
     {
@@ -37,9 +38,9 @@ impl Number {
     }
 
     /// The number times `10 ^ point`, if that is an integer: at point 2, 12.30 is 1230, and 12.301
-    /// is `None`, since a digit would be lost. At point 0 it is the integer that the number is,
-    /// however it is written: 100, 1e2 or 100.0. `None` also for NaN, for a negative sign, even of
-    /// -0, and if it doesn't fit. It is exact of the number, not of a text whose digits were cut.
+    /// is `None`. At point 0 it is the integer itself, however written: 100, 1e2 or 100.0. `None`
+    /// also for NaN, for a negative sign, even of -0, and if it doesn't fit. Exact of the number,
+    /// not of a text whose digits were cut.
     pub fn as_exact_fixed_point_u64(&self, point: u16) -> Option<u64>
         ensures number { SomeWhere (exact_unsigned_fixed_point self.now point)
             (λ n. n < 2 ^ 64) result }
@@ -54,8 +55,8 @@ impl Number {
     }
 
     /// The number times `10 ^ point`, with its sign, if that is an integer: at point 2, -12.30 is
-    /// -1230. `None` if a digit other than 0 would be lost, for NaN, and if it doesn't fit. It is
-    /// exact of the number, not of a text whose digits were cut.
+    /// -1230. `None` if it isn't, for NaN, and if it doesn't fit. Exact of the number, not of a
+    /// text whose digits were cut.
     pub fn as_exact_fixed_point_i64(&self, point: u16) -> Option<i64>
         ensures number { SomeWhere (exact_fixed_point self.now point) (FitsSigned w64) result }
         ensures equal { IfSome result (λ n. point ≤ 32768
@@ -68,7 +69,7 @@ impl Number {
         }
     }
 
-    /// Whether the fixed-point readings at this point lose no digit but zeros.
+    /// Whether the number times `10 ^ point` is an integer. NaN isn't.
     fn is_exact_at(&self, point: u16) -> bool
         ensures whole { result ≡ is_whole_at self.now point }
         ensures exact { result ≡ true → IsExactAt self.now point }

@@ -14,7 +14,7 @@ impl Number {
         *self == Number::from(value)
     }
 
-    /// As `eq_i64`.
+    /// Whether this equals the integer `value`, whatever its parts are.
     pub fn eq_u64(&self, value: u64) -> bool
         ensures { result ≡ same_decimal self.now (integer_parts (pos value)) }
     {

@@ -1,5 +1,5 @@
-//! Numbers as integers (docs/RULES.md, "Integer readings"). For `1.0`, `5e2` and `100e-2`, which
-//! aren't, there is `as_exact_fixed_point_u64(0)`.
+//! Numbers of exponent 0 as integers (docs/RULES.md, "Integer readings"). For others, such as
+//! `1.0`, `5e2` and `100e-2`, there is `as_exact_fixed_point_u64(0)`.
 
 ghost use Rattle.std.specs.Prelude.{◌<◌, ◌^◌, FitsSigned};
 ghost use Rattle.std.specs.Int.{w8, w16, w32, w64};
@@ -8,9 +8,8 @@ ghost use Rattle.jzon_base.specs.Decimal.{integer_of, signed, unsigned_of, OkWhe
 
 use super::Number;
 
-/// The number can't be converted into an integer of the type: it is NaN, its exponent isn't 0, as
-/// that of `1.0` and `1e2`, its sign is negative, even that of -0, and the type is unsigned, or it
-/// doesn't fit.
+/// The number can't be converted: it is NaN, its exponent isn't 0, as that of `1.0` and `1e2`, its
+/// sign is negative, even that of -0, and the type is unsigned, or it doesn't fit.
 #[derive(Clone, Copy, Debug, PartialEq)]
 pub struct NumberOutOfScope;
 
@@ -26,7 +25,7 @@ impl Number {
     }
 
     /// The mantissa with its sign, if the exponent is 0 and the integer fits. NaN is tested first,
-    /// because `as_parts` returns the exponent 0 for it.
+    /// because `as_parts` returns exponent 0 for it.
     fn signed(self) -> Result<i64, NumberOutOfScope>
         ensures { OkWhere (integer_of self) (FitsSigned w64) result }
     {
@@ -40,7 +39,7 @@ impl Number {
     }
 }
 
-/// The magnitude with a sign, or `None` if that doesn't fit.
+/// The integer of this sign and magnitude, or `None` if it doesn't fit in an `i64`.
 pub(super) fn with_sign(positive: bool, magnitude: u64) -> Option<i64>
     ensures { let z = signed positive magnitude in SomeIff result (FitsSigned w64 z) z }
 {

@@ -38,7 +38,7 @@ impl<V> Contents<V> {
         &self.keys
     }
 
-    /// The value at a position, to be written: nothing else changes.
+    /// The value at a position, to be written.
     pub fn value_mut(&mut self, position: usize) -> &mut V
         requires { position < length self.old }
         ensures* writes_back { sem 𝓛 (Lends (the_row V.row) V.row self.entry result
@@ -48,7 +48,8 @@ impl<V> Contents<V> {
         &mut self.values[position]
     }
 
-    /// As `Pairs::insert`.
+    /// Puts a value under a key: replaces that of a key that is there, or puts the entry last, for
+    /// which `Keys::put` has made room.
     #[inline(always)]
     #[tactic(auto, using(crate::proofs::Entries::PairPositions::places))]
     pub fn insert(&mut self, alloc: Global, name: &str, value: V) -> Result<(), AllocError>
@@ -65,7 +66,8 @@ impl<V> Contents<V> {
         Ok(())
     }
 
-    /// As `Pairs::place`.
+    /// The position of a key. A missing one is put last with `value`, for which `Keys::put` has
+    /// made room; else `value` is dropped.
     #[tactic(auto, using(crate::proofs::Entries::PairPositions::places))]
     pub fn place(&mut self, alloc: Global, name: &str, value: V) -> Result<usize, AllocError>
     where
@@ -86,7 +88,7 @@ impl<V> Contents<V> {
         }
     }
 
-    /// As `Pairs::remove_at`.
+    /// Removes and returns the entry at a position.
     pub fn remove_at(&mut self, position: usize) -> (Key, V)
         requires { position < length self.old }
         ensures entry { slice_get self.old position ≡ Some result }

@@ -12,7 +12,7 @@ use std::iter::FusedIterator;
 use std::marker::Model;
 use std::slice;
 
-/// The entries that are left, each as its key's text and its value.
+/// The entries that are still to come.
 #[derive(Drop)]
 pub struct Iter<'a, V> {
     keys: keys::Iter<'a>,
@@ -78,7 +78,7 @@ impl<'a, V> ExactSizeIterator for Iter<'a, V> {
 impl<'a, V> FusedIterator for Iter<'a, V> {}
 
 impl<V> Pairs<V> {
-    /// Iterates over the entries in order, from both ends.
+    /// Iterates over the entries in order.
     pub fn iter(&self) -> Iter<'_, V>
         ensures { result ≡ self.now }
     {

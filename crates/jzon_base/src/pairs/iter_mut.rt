@@ -1,6 +1,5 @@
-//! An iterator over entries whose values may be written, from both ends. No clause says what is
-//! written through a value (docs/TOOLCHAIN.md, "Clauses for mutable iterators, and for allocations
-//! that succeed").
+//! An iterator over entries whose values may be written, from both ends. No contract says what is
+//! written through a value (docs/TOOLCHAIN.md).
 ghost use Rattle.std.specs.Prelude.{◌≡◌, [], length, IfSome, Some};
 ghost use Rattle.std.specs.Iterator.{YieldsFirstBy, YieldsLastBy, item_count, at_most, UpTo};
 ghost use Rattle.std.specs.Iterator.SizeHint.{IsWithinCount};
@@ -11,7 +10,7 @@ use crate::keys;
 use std::iter::FusedIterator;
 use std::slice;
 
-/// The entries that are left, each as its key's text and its value, which may be written.
+/// The entries that are still to come.
 #[derive(Drop)]
 pub struct IterMut<'a, V> {
     keys: keys::Iter<'a>,
@@ -78,7 +77,7 @@ impl<'a, V> FusedIterator for IterMut<'a, V> {}
 impl<V> Pairs<V> {
     ghost use Rattle.jzon_base.specs.IterMut.{iter_mut_rest};
 
-    /// Iterates over the entries in order, from both ends, with each value to be written.
+    /// Iterates over the entries in order, with each value to be written.
     pub fn iter_mut(&mut self) -> IterMut<'_, V>
         ensures rest { iter_mut_rest result ≡ self.old }
     {

@@ -1,12 +1,13 @@
-//! Escapes in strings (RFC 8259, section 7): the letters of simple escapes and hexadecimal digits,
-//! as they are read and as they are printed. What is printed is read back: the clauses `read_back`.
+//! Escapes in strings (RFC 8259, section 7): simple ones, a backslash and a letter, and the
+//! hexadecimal digits of others, as they are read and printed. By `read_back` in contracts, what is
+//! printed is read back.
 
 ghost use Rattle.std.specs.Prelude.{◌≡◌, ◌<◌, IsTrue, IfSome};
 ghost use Rattle.std.specs.Char.{is_ascii_hexdigit, digit_char, digit_value};
 ghost use Rattle.std.specs.Option.{SomeIff};
 ghost use Rattle.jzon_base.specs.Escapes.{is_simple, unescaped, letter_of};
 
-/// The byte that a backslash means before each letter of a simple escape, and 0 for all others.
+/// What the simple escape with each letter means, and 0 for all other bytes.
 #[rattlefmt::skip]
 static UNESCAPED: [u8; 256] = [
     0, 0, 0, 0, 0, 0, 0, 0, 0, 0, 0, 0, 0, 0, 0, 0,
@@ -27,8 +28,8 @@ static UNESCAPED: [u8; 256] = [
     0, 0, 0, 0, 0, 0, 0, 0, 0, 0, 0, 0, 0, 0, 0, 0,
 ];
 
-/// The letter of the simple escape of each byte that has one, and 0 for all others. No byte from 96
-/// on has one.
+/// The letter of the simple escape that each byte is printed as, and 0 for all others. No byte from
+/// 96 on has one.
 #[rattlefmt::skip]
 static ESCAPE_LETTERS: [u8; 96] = [
     0, 0, 0, 0, 0, 0, 0, 0, b'b', b't', b'n', 0, b'f', b'r', 0, 0,
@@ -62,7 +63,7 @@ static DIGIT_VALUES: [u8; 256] = [
     NONE, NONE, NONE, NONE, NONE, NONE, NONE, NONE, NONE, NONE, NONE, NONE, NONE, NONE, NONE, NONE,
 ];
 
-/// The character that a backslash means before this letter, or `None` if no simple escape has it.
+/// What a backslash and this letter mean, or `None` if no simple escape has it.
 #[inline(always)]
 pub fn meant_by(letter: u8) -> Option<char>
     ensures { SomeIff result (IsTrue (is_simple letter)) (unescaped letter) }

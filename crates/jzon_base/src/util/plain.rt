@@ -1,5 +1,5 @@
 //! Finds the first byte that needs an escape (RFC 8259, section 7), many bytes at once. A byte that
-//! needs none is *plain*.
+//! needs none is *plain*: from 32 on, and neither a quote nor a backslash.
 
 ghost use Rattle.std.specs.Prelude.{◌≡◌, ◌+◌, ◌<◌, ◌≤◌, drop, length, take, IsTrue};
 ghost use Rattle.std.specs.Int.{w64, trailing_zeros};
@@ -13,9 +13,8 @@ const BLOCK: usize = 32;
 
 const HALF: usize = 16;
 
-/// The length of the longest prefix of bytes that a string of a text has unescaped: from 32 on, and
-/// neither a quote nor a backslash. Most strings end within `HALF` bytes, which are compared here
-/// without a call.
+/// The length of the plain prefix. The quote after a string mostly ends it within `HALF` bytes,
+/// which are compared here without a call.
 #[inline(always)]
 pub fn plain_len(bytes: &[u8]) -> usize
     ensures { result ≡ prefix_len is_plain bytes.now }
@@ -53,8 +52,8 @@ fn plain_by_bytes(bytes: &[u8]) -> usize
         .count()
 }
 
-/// The length of the plain prefix of `N` to `2 * N` bytes: the first `N` and the last `N` are
-/// compared, which may overlap.
+/// The length of the plain prefix of `N` to `2 * N` bytes: the first `N` and the last `N`, which
+/// may overlap.
 #[inline(always)]
 fn plain_by_ends<const N: usize>(bytes: &[u8]) -> usize
     requires few { N ≤ 32 }
@@ -70,8 +69,8 @@ fn plain_by_ends<const N: usize>(bytes: &[u8]) -> usize
     last + plain_in_lanes::<N>(bytes, last)
 }
 
-/// The length of the plain prefix of bytes whose first `HALF` are plain. Block by block is
-/// compared; the last block ends where the bytes do, so it may overlap the one before.
+/// The length of the plain prefix of bytes whose first `HALF` are plain, block by block. The last
+/// block ends where the bytes do, so it may overlap the one before.
 #[inline(never)]
 fn plain_after_half(bytes: &[u8]) -> usize
     requires { HALF ≤ prefix_len is_plain bytes.now }
@@ -93,9 +92,9 @@ fn plain_after_half(bytes: &[u8]) -> usize
     last + plain_in_lanes::<32>(bytes, last)
 }
 
-/// Whether `N` to `2 * N` bytes need no escape: the first `N` and the last `N`, which may overlap,
-/// are put side by side and compared at once. `M` is `2 * N`. The clause says only what `true`
-/// means, because at `false` a caller takes the way for bytes that need escapes.
+/// Whether `N` to `2 * N` bytes are plain: the first `N` and the last `N`, which may overlap, are
+/// put side by side and compared at once. The contract says only what `true` means: at `false`
+/// callers look for escapes.
 #[inline(always)]
 pub fn is_plain_by_ends<const N: usize, const M: usize>(bytes: &[u8]) -> bool
     requires lanes { (M ≤ 32) × (M ≡ N + N) }
@@ -109,8 +108,7 @@ pub fn is_plain_by_ends<const N: usize, const M: usize>(bytes: &[u8]) -> bool
     escapes_in_lanes::<M>(ends, 0) == 0
 }
 
-/// How many of the `N` bytes at an offset come before the first that needs an escape; `N` if none
-/// does.
+/// How many of the `N` bytes from `start` on come before the first that isn't plain.
 #[inline(always)]
 fn plain_in_lanes<const N: usize>(bytes: &[u8], start: usize) -> usize
     requires few { N ≤ 32 }
@@ -125,7 +123,7 @@ fn plain_in_lanes<const N: usize>(bytes: &[u8], start: usize) -> usize
     }
 }
 
-/// Which of the `N` bytes at an offset need an escape, a bit for each, the first byte's lowest.
+/// Which of the `N` bytes from `start` on aren't plain, a bit for each, the first byte's lowest.
 #[inline(always)]
 fn escapes_in_lanes<const N: usize>(bytes: &[u8], start: usize) -> u64
     requires few { N ≤ 32 }

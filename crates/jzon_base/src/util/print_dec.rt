@@ -1,5 +1,5 @@
 //! The text of a number (docs/RULES.md, "Printed numbers"; RFC 8259, section 6). `put_digits` puts
-//! that of a common number in a few stores; `number_text` makes that of any other, part by part.
+//! that of a common number (`is_common`) in a few stores; `number_text` makes that of any.
 
 ghost use Rattle.std.specs.Prelude.{◌≡◌, ◌+◌, ◌≤◌, ◌<◌, ◌↔◌, ◌++◌, ◌∷◌, length, take, drop, replicate, slice_index, IsAscii, IsTrue, OnOk, OnErr};
 ghost use Rattle.std.specs.Io.KnownBytes.{Appends};
@@ -17,19 +17,19 @@ use std::simd::Simd;
 /// such as `e-32749`.
 pub const MAX_LEN: usize = 29;
 
-/// The most digits that `put_digits` puts after a point: they are moved at once.
+/// The most digits after the point of a common number: `put_point` moves so many bytes at once.
 const PLACES: usize = 16;
 
-/// The room that `put_digits` needs, which three stores of 16 bytes fill: for a sign, up to 19
-/// digits before the point, and the 17 bytes to which a point and the digits after it are moved.
+/// The bytes that `put_digits` needs: a sign, up to 19 digits before the point, and 17 from the
+/// point on, rounded up to three stores of 16.
 #[doc(hidden)]
 pub const DIGITS_ROOM: usize = 48;
 
-/// The text of a number. In clauses its room, `MAX_LEN`, is written 29.
+/// The text of a number. In contracts its room, `MAX_LEN`, is written 29.
 pub type NumberText = ArrayString<MAX_LEN>;
 
-/// Writes the text of the number `n * 10 ^ exponent` with its sign, at most `MAX_LEN` bytes. An
-/// error of the writer is returned; a prefix of the text is then written.
+/// Writes the text of the number `n * 10 ^ exponent` with its sign. After an error of the writer,
+/// which is returned, a prefix of it is written.
 pub fn write<W: Write>(wr: &mut W, positive: bool, n: u64, exponent: i16) -> io::Result<()>
     ensures ok { OnOk result
         (Appends (W.contents wr.old) (W.contents wr.new) (number_text positive n exponent)) }
@@ -41,8 +41,8 @@ pub fn write<W: Write>(wr: &mut W, positive: bool, n: u64, exponent: i16) -> io:
     write_bytes(wr, text.as_str().as_bytes())
 }
 
-/// Whether the number is common: not 0, its exponent is 0 to -`PLACES`, and a digit is before its
-/// point.
+/// Whether the number is common: it isn't 0, its exponent is 0 to -`PLACES`, and a digit is before
+/// its point.
 #[doc(hidden)]
 #[inline(always)]
 pub fn is_common(mantissa: u64, exponent: i16) -> bool
@@ -54,9 +54,8 @@ pub fn is_common(mantissa: u64, exponent: i16) -> bool
     mantissa.ilog10() as usize + 1 > exponent.unsigned_abs() as usize
 }
 
-/// Puts the text of a common number at the offset, where a minus is (a positive number overwrites
-/// it), in a few stores, and returns its end. The bytes before it stay. The caller writes any other
-/// number by `number_text`.
+/// Puts the text of a common number at `start`, in a few stores, and returns its end. A minus must
+/// be at `start`; a positive number overwrites it. Bytes before it stay.
 #[doc(hidden)]
 #[inline(always)]
 pub fn put_digits(
@@ -83,7 +82,7 @@ pub fn put_digits(
     end + 1
 }
 
-/// Puts a point at the offset; the bytes from there on are moved by one, 16 of them.
+/// Puts a point at offset `point`; the 16 bytes from there on are moved up by one.
 #[inline(always)]
 fn put_point(room: &mut [u8], point: usize)
     requires { point + 17 ≤ length room.old }
@@ -114,7 +113,8 @@ pub fn number_text(positive: bool, mantissa: u64, exponent: i16) -> NumberText
     text
 }
 
-/// Adds digits with their exponent (docs/RULES.md, "Printed numbers").
+/// Appends `digits * 10 ^ exponent`: without an exponent if that takes at most 20 digits, or 17
+/// after the point; else with a point after the first digit and, unless 0, an exponent.
 fn push_magnitude(text: &mut NumberText, digits: &str, exponent: i16)
     requires ascii { IsAscii digits.now }
     requires some { 0 < length digits.now }
@@ -141,7 +141,7 @@ fn push_magnitude(text: &mut NumberText, digits: &str, exponent: i16)
     }
 }
 
-/// Adds the digits divided by `10 ^ places`, without an exponent.
+/// Appends the digits divided by `10 ^ places`, without an exponent.
 fn push_fraction(text: &mut NumberText, digits: &str, places: usize)
     requires ascii { IsAscii digits.now }
     requires places { places ≤ 17 }
@@ -159,8 +159,9 @@ fn push_fraction(text: &mut NumberText, digits: &str, places: usize)
     }
 }
 
-/// Adds the exponent of `count` digits divided by `10 ^ places`, if the first digit is before the
-/// point: nothing for 0, and `e+1` for 1, the largest.
+/// Appends the exponent of `count` digits divided by `10 ^ places`, with the point after the first
+/// digit: `count - 1 - places`. Nothing for 0, and `e+1` for 1, the largest: there are at most 20
+/// digits, and at least 18 places.
 fn push_small_exponent(text: &mut NumberText, count: usize, places: usize)
     requires count { count ≤ 20 }
     requires small { 18 ≤ places }
@@ -193,6 +194,7 @@ fn push_point_after_first(text: &mut NumberText, digits: &str)
     }
 }
 
+/// Appends digits, with a point after the first `whole`.
 fn push_point_after(text: &mut NumberText, digits: &str, whole: usize)
     requires ascii { IsAscii digits.now }
     requires within { whole ≤ length digits.now }

@@ -32,7 +32,8 @@ pub fn found_in(alloc: Global, value: &JsonValue) -> Result<Found, AllocError>
     }
 }
 
-/// The same of a string: a copy, or how long it is.
+/// What a string is: a copy, or if it has more than `LONGEST` characters, their count. It fails
+/// only if memory lacks for the copy.
 pub fn found_text(alloc: Global, text: &str) -> Result<Found, AllocError>
     ensures { IfOk result (λ f. (v : Value) → text_in v ≡ Some text.now → FoundIs f v) }
 {
@@ -43,9 +44,10 @@ pub fn found_text(alloc: Global, text: &str) -> Result<Found, AllocError>
     Ok(Found::String(String::from_str(alloc, text)?))
 }
 
-/// Whether digits of a number may have been cut where its text was read (`What::Cut`): the first that
-/// is cut didn't fit a `u64` after the mantissa, which then is a tenth of 2^64 or more. With the
-/// exponent 0 only a fraction can be missing, which doesn't count (docs/TOOLS.md, "Typed reading").
+/// Whether digits of a number may have been cut where its text was read (`What::Cut`): the first
+/// that is cut didn't fit a `u64` after the mantissa, which then is a tenth of 2^64 or more. With
+/// the exponent 0 only a fraction can be missing, which doesn't count. (A NaN has mantissa and
+/// exponent 0.)
 pub fn may_be_cut(number: Number) -> bool
     ensures { result ≡ may_be_cut number }
 {

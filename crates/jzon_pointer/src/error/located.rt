@@ -13,8 +13,8 @@ use std::alloc::Global;
 
 impl Error {
     /// This error with its place in the text of which the value was read by this reading. That of a
-    /// missing entry is its object's, and that of an unknown one its key's. The place of a text's
-    /// own error stays, and there is none if memory runs out while it is looked for.
+    /// missing entry is its object's, and that of an unknown one its key's. There is none if the
+    /// pointer names nothing, or memory runs out meanwhile. An error without `what` stays as it is.
     ///
     /// ```rust
     /// let placed = error.in_text(rt.alloc(), REPEATED, &Reading::USUAL);
@@ -32,7 +32,7 @@ impl Error {
     }
 }
 
-/// Where the value or the key is that the error's pointer names; `None` of a text's own error.
+/// The place that the error gets; `None` without `what`, a place, or memory.
 #[tactic(auto, using(crate::proofs::PlacedSteps::placing))]
 fn place_in(alloc: Global, error: &Error, text: &str, reading: &Reading) -> Option<Place>
     ensures place { IfSome result (IsPlaceIn text.now) }
@@ -45,7 +45,8 @@ fn place_in(alloc: Global, error: &Error, text: &str, reading: &Reading) -> Opti
     }
 }
 
-/// The place of `what`, which went wrong at a pointer.
+/// The place of the value at a pointer; of a missing entry its object's, of an unknown one its
+/// key's.
 #[tactic(auto, using(crate::proofs::PlacedSteps::placing))]
 fn place_at(
     alloc: Global,
@@ -64,7 +65,8 @@ fn place_at(
     }
 }
 
-/// The pointer without its last token: the token of a key has no slash.
+/// The pointer without its last token, or all of one without `/`. The token of a key has none: it
+/// is `~1` there.
 fn parent(pointer: &str) -> &str
     ensures { (q k : List ℕ) → pointer.now ≡ q ++ 47 ∷ escaped k → result.now ≡ q }
 {

@@ -1,5 +1,4 @@
-//! What an error says is expected, and what is there; which operation of a patch can't be done, and of
-//! which member.
+//! What an error says is expected, and what is there; why an operation of a patch can't be done.
 
 ghost use Rattle.std.specs.Prelude.{◌≡◌, Some};
 ghost use Rattle.std.specs.Fmt.{WritesOnOk};
@@ -15,7 +14,7 @@ use std::fmt;
 /// What a value must be.
 #[derive(Clone, Copy, PartialEq, Eq)]
 pub enum Expected {
-    /// Any value: of a missing entry whose type takes null.
+    /// Any value: said of a missing entry whose type takes null.
     Value,
     String,
     Boolean,
@@ -25,10 +24,12 @@ pub enum Expected {
     U8,
     U16,
     U32,
+    /// Of a `usize` too.
     U64,
     I8,
     I16,
     I32,
+    /// Of an `isize` too.
     I64,
     /// A number with at most this many digits after the point.
     Fixed(u16),
@@ -48,9 +49,9 @@ pub enum Found {
     Null,
     Boolean(bool),
     Number(Number),
-    /// A string. Of a longer one 40 characters are shown.
+    /// A string, of which at most 40 characters are shown.
     String(String),
-    /// A string that is too long to be repeated, of this many characters.
+    /// A string of this many characters, more than an error repeats.
     LongString(usize),
     /// An array of this many elements.
     Array(usize),
@@ -74,16 +75,17 @@ pub enum Cause {
     Missing(Member),
     /// This member isn't a string.
     NotAString(Member),
-    /// `op` is none of the six.
+    /// `op` is none of RFC 6902's six.
     UnknownOp,
-    /// The value at `path` isn't the wanted one.
+    /// The value at `path` doesn't equal `value`.
     TestFailed,
     /// `path` leads into what would be moved.
     IntoItself,
     /// What would be put at `path` nests deeper than the limit, with the containers around it.
     TooDeep,
-    /// What would be copied, or moved to a deeper place, weighs more than what those before it left of
-    /// the limit.
+    /// What would be copied, or moved to a deeper place, weighs more (48 bytes a value, and those
+    /// of strings and keys) than those before it left of the limit, or more elements and entries
+    /// would be shifted.
     TooLarge,
 }
 
@@ -97,7 +99,7 @@ pub enum Member {
 }
 
 impl Found {
-    /// Its type, or its size.
+    /// Without what is there: the type of a boolean, a number or a string, the size of a container.
     pub fn hidden(&self) -> Found
         ensures { result ≡ hidden_found self.now }
     {
@@ -146,7 +148,6 @@ impl fmt::Display for Expected {
     }
 }
 
-/// A number with at most this many digits after the point.
 fn show_fixed<W: fmt::Write>(f: &mut fmt::Formatter<W>, point: u16) -> fmt::Result
     ensures { WritesOnOk W.write_str_gives f.old result (fixed_text point) f.new }
 {
@@ -182,7 +183,8 @@ impl fmt::Display for Found {
     }
 }
 
-/// A number, of at most 29 bytes.
+/// What `Display` of a number prints, `nan` of NaN. It isn't called, because its contract doesn't say
+/// that this takes at most 29 bytes, as the type of `number_text` does.
 fn show_number<W: fmt::Write>(f: &mut fmt::Formatter<W>, number: &Number) -> fmt::Result
     ensures { WritesOnOk W.write_str_gives f.old result (number_shown number.now) f.new }
 {
@@ -211,7 +213,7 @@ impl fmt::Display for Cause {
     }
 }
 
-/// Its name, as code.
+/// Its name, in backquotes.
 impl fmt::Display for Member {
     ghost output = { λ m. Some (member_text m) };
 

@@ -1,4 +1,4 @@
-//! A step before a JSON pointer (RFC 6901, sections 3 and 4).
+//! One token before a JSON pointer (RFC 6901, sections 3 and 4).
 
 ghost use Rattle.std.specs.Prelude.{◌≡◌, ◌∷◌, ◌++◌, IfOk, string_bytes};
 ghost use Rattle.std.specs.Fmt.{decimal};
@@ -7,7 +7,7 @@ ghost use Rattle.jzon_pointer.specs.Escaped.{escaped};
 use crate::token::push_escaped;
 use std::alloc::{AllocError, Global};
 
-/// A slash, the key as a token, and the pointer.
+/// `/`, the key with `~0` for `~` and `~1` for `/`, and the pointer.
 pub fn below_key(alloc: Global, key: &str, pointer: &str) -> Result<String, AllocError>
     ensures { IfOk result (λ t. string_bytes t ≡ 47 ∷ escaped key.now ++ pointer.now) }
 {
@@ -19,7 +19,7 @@ pub fn below_key(alloc: Global, key: &str, pointer: &str) -> Result<String, Allo
     Ok(text)
 }
 
-/// A slash, the index, and the pointer.
+/// `/`, the index in decimal, and the pointer.
 pub fn below_index(alloc: Global, index: usize, pointer: &str) -> Result<String, AllocError>
     ensures { IfOk result (λ t. string_bytes t ≡ 47 ∷ decimal index ++ pointer.now) }
 {

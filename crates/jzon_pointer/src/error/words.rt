@@ -10,8 +10,9 @@ use crate::shown::{ShownPointer, ShownToken, ShownWords, show_char, show_names};
 use crate::{PointerError, Reason};
 use std::fmt;
 
-/// A number in a message. A clause knows no range of a number inside an `Error`, so `count_text`
-/// shows only one that fits a `usize`, as each does: so each part is bounded.
+/// A number in a message, in decimal. For the proof that messages are short: in clauses a number
+/// inside an `Error` has no bound, so `count_text` is empty for one that doesn't fit a `usize`. (Each
+/// fits.)
 #[derive(Clone, Copy)]
 pub struct Count(pub usize);
 
@@ -24,7 +25,7 @@ impl fmt::Display for Count {
     }
 }
 
-/// The number of a patch's operation, and a colon.
+/// `operation 3: `, counted from 0, or nothing.
 pub fn show_operation<W: fmt::Write>(
     f: &mut fmt::Formatter<W>,
     number: Option<usize>,
@@ -37,7 +38,7 @@ pub fn show_operation<W: fmt::Write>(
     }
 }
 
-/// The member that has a pointer, and a colon.
+/// The member that has the error's pointer, and `: `, or nothing.
 pub fn show_member<W: fmt::Write>(f: &mut fmt::Formatter<W>, member: Option<Member>) -> fmt::Result
     ensures { WritesOnOk W.write_str_gives f.old result (in_member_text member) f.new }
 {
@@ -47,7 +48,7 @@ pub fn show_member<W: fmt::Write>(f: &mut fmt::Formatter<W>, member: Option<Memb
     }
 }
 
-/// A line and a column, if they are known.
+/// ` at (4:14)`, the line and the column, or nothing.
 pub fn show_position<W: fmt::Write>(
     f: &mut fmt::Formatter<W>,
     position: Option<(usize, usize)>,
@@ -60,7 +61,7 @@ pub fn show_position<W: fmt::Write>(
     }
 }
 
-/// The words of an error, as `Error::words` returns them: one line of at most 600 bytes.
+/// An error without operation, pointer and place: one line of at most 600 bytes.
 #[derive(Clone, Copy)]
 pub struct Words<'a> {
     pub(super) error: &'a Error,
@@ -79,7 +80,8 @@ impl fmt::Display for Words<'_> {
     }
 }
 
-/// Why a text is rejected, without a place.
+/// Why a text is rejected, with an escaped character, and without the place, which `show_position`
+/// prints.
 fn show_text_words<W: fmt::Write>(f: &mut fmt::Formatter<W>, error: &jzon::Error) -> fmt::Result
     ensures { WritesOnOk W.write_str_gives f.old result (text_words error.now) f.new }
 {
@@ -100,7 +102,7 @@ fn show_text_words<W: fmt::Write>(f: &mut fmt::Formatter<W>, error: &jzon::Error
     }
 }
 
-/// What went wrong, at a pointer.
+/// What went wrong. The words of `What::Pointer` quote parts of the pointer.
 fn show_what<W: fmt::Write>(f: &mut fmt::Formatter<W>, what: &What, pointer: &str) -> fmt::Result
     ensures { WritesOnOk W.write_str_gives f.old result (what_words what.now pointer.now) f.new }
 {
@@ -125,7 +127,7 @@ fn show_what<W: fmt::Write>(f: &mut fmt::Formatter<W>, what: &What, pointer: &st
     }
 }
 
-/// Why a pointer names nothing.
+/// Why a pointer names nothing, or no place for a new value.
 fn show_pointer_words<W: fmt::Write>(
     f: &mut fmt::Formatter<W>,
     error: &PointerError,
@@ -147,7 +149,7 @@ fn show_pointer_words<W: fmt::Write>(
     }
 }
 
-/// Why the token names nothing in the value that the message calls `parent`.
+/// Why the token names nothing in the value at the pointer `parent`, or in `the whole value`.
 fn show_reason<W: fmt::Write>(
     f: &mut fmt::Formatter<W>,
     reason: &Reason,

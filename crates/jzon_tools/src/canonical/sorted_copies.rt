@@ -13,8 +13,8 @@ use jzon::object::Object;
 use jzon::{Error, JsonValue, Result};
 use std::alloc::{AllocError, Global};
 
-/// A copy of the value with the keys of each object sorted by their bytes, at every depth. Numbers
-/// keep their parts, and strings how they are stored.
+/// A copy of the value with sorted keys, at every depth. Numbers keep their parts, and strings how
+/// they are stored.
 #[cycle(sorted)]
 #[tactic(auto, using(crate::proofs::Views::views))]
 pub fn sorted(alloc: Global, value: &JsonValue) -> Result<JsonValue>
@@ -53,7 +53,7 @@ fn sorted_items(alloc: Global, items: &[JsonValue]) -> Result<Vec<JsonValue>>
     Ok(copies)
 }
 
-/// A copy with sorted keys.
+/// A copy with sorted keys, at every depth.
 #[cycle(sorted)]
 fn sorted_object(alloc: Global, object: &Object) -> Result<Object>
     ensures copy { IfOk result (λ copy. view_pairs (entries_of copy)

@@ -40,7 +40,8 @@ pub fn diff(alloc: Global, old: &JsonValue, new: &JsonValue) -> Result<Option<Js
     }
 }
 
-/// The object. Where there is another value or none, the one without entries, as a merge takes it.
+/// The object that a value is. Any other, or none, counts as `none`, as in a merge: one without
+/// entries.
 #[tactic(auto, using(crate::proofs::Merges::merges))]
 fn object_of<'v>(value: Option<&'v JsonValue>, none: &'v Object) -> &'v Object
     requires { entries_of none.now ≡ [] }
@@ -52,7 +53,6 @@ fn object_of<'v>(value: Option<&'v JsonValue>, none: &'v Object) -> &'v Object
     }
 }
 
-/// Whether the value is there, and an object.
 fn has_object(value: Option<&JsonValue>) -> bool
     ensures { result ≡ is_object (or_null (option_map (λ v. view v.now) value.entry)) }
 {
@@ -62,7 +62,7 @@ fn has_object(value: Option<&JsonValue>) -> bool
     }
 }
 
-/// The members of a patch from one object to another.
+/// The members of a patch from one object to another, or `None` if there is no such patch.
 #[cycle(diff)]
 fn members(alloc: Global, from: &Object, to: &Object) -> Result<Option<Object>>
     ensures patch { IfOk result (λ o. IfSome o (λ p.
@@ -82,7 +82,7 @@ fn members(alloc: Global, from: &Object, to: &Object) -> Result<Option<Object>>
     Ok(Some(patch))
 }
 
-/// A patch that removes what the new object hasn't.
+/// A patch with null for each member that the new object hasn't.
 fn removed(alloc: Global, from: &Object, to: &Object) -> Result<Object>
     ensures ok { IfOk result (λ p. Removes (viewed (entries_of from.now))
         (viewed (entries_of to.now)) (viewed (entries_of p))) }
@@ -97,7 +97,7 @@ fn removed(alloc: Global, from: &Object, to: &Object) -> Result<Object>
     Ok(patch)
 }
 
-/// Adds what changes a member, if it has to be changed. False if no patch can.
+/// Adds to the patch what changes a member, if it has to be changed. False if no patch can.
 #[cycle(diff)]
 fn member(
     alloc: Global,
@@ -117,7 +117,8 @@ fn member(
     }
 }
 
-/// The same, of a new value that is no object. No patch can put a null, since there it removes.
+/// Adds what changes a member to a new value that is no object, if it differs. False of a null
+/// then: a patch's null removes.
 fn leaf(
     alloc: Global,
     patch: &mut Object,
@@ -143,7 +144,7 @@ fn leaf(
     Ok(true)
 }
 
-/// The same, of a new object.
+/// Adds what changes a member to a new object.
 #[cycle(diff)]
 fn nested(
     alloc: Global,

@@ -3,8 +3,12 @@
 //! `value`, `members`, `member`, `elements`, `change` and `element` call one another;
 //! proofs/patch/changes/Changes/+diff says what gets smaller: the size of the old value.
 //!
+//! A method that turns, changes, removes or adds something appends the operations that do so.
+//! `compared` says that both values are parts of ones that were compared as a whole, and differ.
+//!
 //! `AddsElements` has two pairs, from which state of an array to which: `(n, i)` has `n` elements
-//! equal to the new ones, and then the old ones from index `i` on.
+//! equal to the new ones, and then the old ones from index `i` on. `cut` and `extend` take both
+//! arrays for the clauses: only if these aren't equal is anything removed or added.
 
 ghost use Rattle.std.specs.Prelude.{◌≡◌, ◌≤◌, ◌+◌, ◌-◌, ◌<◌, ◌++◌, ◌∷◌, [], ℕ, IfOk, OnOk, IsOkUnless, drop, is_some, length, map, string_bytes, take, true};
 ghost use Rattle.std.specs.Fmt.{decimal};
@@ -28,8 +32,8 @@ use std::alloc::Global;
 /// are values at a path of more than 512 bytes, and an array or an object of which so many parts are
 /// removed, or inserted before others, that `apply` would move more than 2^24 in it.
 ///
-/// Takes time in proportion to both values, and memory for the patch: at most about 1,500 bytes for each
-/// operation, beside the new values and the keys that it has. Goes at most 513 levels deep;
+/// Takes time in proportion to both values, and memory for the patch: at most about 1,500 bytes for
+/// each operation, beside the new values and the keys that it has. Goes at most 513 levels deep;
 /// below, it only compares and clones.
 ///
 /// ```rust
@@ -51,15 +55,15 @@ pub fn diff(alloc: Global, old: &JsonValue, new: &JsonValue) -> Result<JsonValue
     Ok(JsonValue::Array(changes.operations))
 }
 
-/// Values at a longer path are replaced as a whole: else a patch could be as large as a long key times
-/// the number of changes below it.
+/// In bytes. Values at a longer path are replaced as a whole: else a patch could be as large as a
+/// long key times the changes below it.
 const LONGEST_PATH: usize = 512;
 
 /// In objects with more entries each value is a small part, and is first compared as a whole.
 const SMALL_OBJECT: usize = 16;
 
-/// How many elements or entries `apply` may move for the removals from one container, or the insertions
-/// into it: 2 to the power of 24. If it would move more, the container is replaced as a whole.
+/// How many elements or entries `apply` may move for removals from one container, or insertions
+/// into it: 2^24.
 const MOST_MOVED: usize = 16_777_216;
 
 /// The operations so far, and the path of the values that are compared.
@@ -71,9 +75,8 @@ struct Changes {
 }
 
 impl Changes {
-    /// Adds the operations that turn the value at the path into the new one. Elements of arrays, and
-    /// members of objects of more than `SMALL_OBJECT`, are compared as a whole first, but only once:
-    /// not if they are parts of values that were (`compared`).
+    /// Turns the value at the path into the new one. Elements of arrays, and members of objects of
+    /// more than `SMALL_OBJECT`, are compared as a whole first, if not `compared`.
     #[cycle(diff)]
     fn value(&mut self, old: &JsonValue, new: &JsonValue, compared: bool) -> Result<()>
         ensures ok { OnOk result (AddsChanges (string_bytes self.old.path) (view old.now)
@@ -91,7 +94,7 @@ impl Changes {
         }
     }
 
-    /// Adds the replacement of a value as a whole, if the new one differs.
+    /// Replaces a value as a whole, if the new one differs.
     fn whole(&mut self, old: &JsonValue, new: &JsonValue) -> Result<()>
         ensures ok { OnOk result (AddsChanges (string_bytes self.old.path) (view old.now)
             (view new.now) (operations_of self.old) (operations_of self.new)) }
@@ -105,7 +108,7 @@ impl Changes {
         Ok(())
     }
 
-    /// Adds the operations that change the entries of one object to those of another.
+    /// Changes the entries of one object to those of another.
     #[cycle(diff)]
     fn members(&mut self, from: &Object, to: &Object, compared: bool) -> Result<()>
         ensures ok { OnOk result (AddsChanges (string_bytes self.old.path) (view_object from.now)
@@ -134,7 +137,7 @@ impl Changes {
         Ok(())
     }
 
-    /// Adds the operations that change the entry of a key, which is first looked for at an index.
+    /// Changes the entry of a key, which is first looked for at an index.
     #[cycle(diff)]
     fn member(
         &mut self,
@@ -169,9 +172,8 @@ impl Changes {
         Ok(())
     }
 
-    /// Adds the operations that change the elements of one array to those of another: between the
-    /// equal elements at both ends those that both arrays have are changed, and the others cut or
-    /// added. At most one of `cut` and `extend` has something to do.
+    /// Changes the elements of one array to those of another: between the equal elements at both
+    /// ends those that both arrays have are changed, and the others cut or added.
     #[cycle(diff)]
     fn elements(&mut self, from: &[JsonValue], to: &[JsonValue], compared: bool) -> Result<()>
         ensures ok { OnOk result (AddsChanges (string_bytes self.old.path)
@@ -187,7 +189,7 @@ impl Changes {
         self.extend(from, to, both, to.len() - kept)
     }
 
-    /// Adds the operations that change the elements from one index to another.
+    /// Changes the elements from index `start` to before `end`.
     #[cycle(diff)]
     fn change(
         &mut self,
@@ -210,7 +212,7 @@ impl Changes {
         Ok(())
     }
 
-    /// Adds the operations that change one element.
+    /// Changes the element at an index, which both arrays have.
     #[cycle(diff)]
     fn element(
         &mut self,
@@ -237,9 +239,7 @@ impl Changes {
         Ok(())
     }
 
-    /// Adds the operations that remove the elements from one index to another: each at `start`,
-    /// where the next one then is. `from` and `to` are there only for the clauses: by `shorter`,
-    /// arrays of which elements are removed aren't equal.
+    /// Removes the elements from one index to another: each at `start`, where the next one then is.
     fn cut(&mut self, from: &[JsonValue], to: &[JsonValue], start: usize, end: usize) -> Result<()>
         requires range { (start ≤ end) × (end ≤ length from.now) × (start ≤ length to.now) }
         requires shorter { start < end → length to.now < length from.now }
@@ -258,9 +258,8 @@ impl Changes {
         Ok(())
     }
 
-    /// Adds the operations that add the new elements from one index to another, each at its index,
-    /// before the old ones from any index `rest` on. `from` and `longer` are there
-    /// as `from` and `shorter` in `cut`.
+    /// Adds the new elements from one index to another, each at its index, before the old ones from
+    /// any index `rest` on.
     fn extend(
         &mut self,
         from: &[JsonValue],
@@ -285,7 +284,7 @@ impl Changes {
         Ok(())
     }
 
-    /// Adds an operation that adds the new value at the path.
+    /// Adds the new value at the path.
     fn add(&mut self, new: &JsonValue) -> Result<()>
         ensures ok { OnOk result ((op : Value) × Adds (string_bytes self.old.path) (view new.now) op
             × (operations_of self.new ≡ operations_of self.old ++ op ∷ [])) }
@@ -297,7 +296,7 @@ impl Changes {
         Ok(())
     }
 
-    /// Adds an operation that removes what is at the path.
+    /// Removes what is at the path.
     fn remove(&mut self) -> Result<()>
         ensures ok { OnOk result ((op : Value) × Removes (string_bytes self.old.path) op
             × (operations_of self.new ≡ operations_of self.old ++ op ∷ [])) }
@@ -320,8 +319,9 @@ fn moves_much(old: &JsonValue, new: &JsonValue) -> bool {
     }
 }
 
-/// The same of the entries of objects: only a removal moves any, and goes over all. Ends as soon as
-/// enough keys are found that stay; those that both objects have are mostly in one order.
+/// Whether entries of objects would be moved too much: only a removal moves any, and goes over all.
+/// Ends as soon as enough keys are found that stay; those that both objects have are mostly in one
+/// order.
 fn members_move_much(from: &Object, to: &Object) -> bool {
     let all = from.len();
     let mut removed = all;
@@ -336,8 +336,8 @@ fn members_move_much(from: &Object, to: &Object) -> bool {
     is_much(removed, all)
 }
 
-/// The same of the elements of arrays: behind those that are removed or inserted are the equal ones at the
-/// end, and behind one that is removed those that will be, too.
+/// Whether elements of arrays would be moved too much: behind those that are removed or inserted
+/// are the equal ones at the end, and behind one that is removed those that will be, too.
 fn elements_move_much(from: &[JsonValue], to: &[JsonValue]) -> bool {
     let count = from.len().abs_diff(to.len());
     if !is_much(count, from.len()) {
@@ -350,7 +350,8 @@ fn elements_move_much(from: &[JsonValue], to: &[JsonValue]) -> bool {
     )
 }
 
-/// Whether so many removals or insertions, each of which moves so many elements or entries, move too many.
+/// Whether so many removals or insertions, each of which moves so many elements or entries, move
+/// too many.
 fn is_much(count: usize, moved: usize) -> bool {
     count.saturating_mul(moved) > MOST_MOVED
 }
@@ -370,7 +371,7 @@ fn look<'a>(object: &'a Object, index: usize, key: &str) -> Option<&'a JsonValue
     object.get(key)
 }
 
-/// Whether the object has the key, which is looked for in the same way.
+/// Whether the object has the key, which is first looked for at an index.
 fn has(object: &Object, index: usize, key: &str) -> bool
     ensures { result ≡ is_some (find key.now (entries_of object.now)) }
 {
@@ -395,7 +396,6 @@ fn common(from: &[JsonValue], to: &[JsonValue]) -> (usize, usize)
     )
 }
 
-/// How many elements at the beginning are equal.
 fn common_start(from: &[JsonValue], to: &[JsonValue]) -> usize
     ensures room { (result ≤ length from.now) × (result ≤ length to.now) }
     ensures same { AllSame (take result (map view from.now)) (take result (map view to.now)) }
@@ -409,7 +409,7 @@ fn common_start(from: &[JsonValue], to: &[JsonValue]) -> usize
     most
 }
 
-/// How many elements at the end are equal, up to `most`.
+/// How many elements at the end are equal, up to `most`, which leaves out those at the beginning.
 fn common_end(from: &[JsonValue], to: &[JsonValue], most: usize) -> usize
     requires most { (most ≤ length from.now) × (most ≤ length to.now) }
     ensures room { result ≤ most }
@@ -424,12 +424,12 @@ fn common_end(from: &[JsonValue], to: &[JsonValue], most: usize) -> usize
     most
 }
 
-/// Primitives are compared before their path is made, which mostly costs more.
+/// No object and no array. Such are compared before their path is made, which mostly costs more.
 fn is_primitive(value: &JsonValue) -> bool {
     !value.is_object() && !value.is_array()
 }
 
-/// Appends a slash and the token of an index.
+/// Appends `/` and an index.
 fn push_index(path: &mut String, index: usize) -> Result<()>
     ensures below { OnOk result (IsBelow (string_bytes path.old) (decimal index)
         (string_bytes path.new)) }

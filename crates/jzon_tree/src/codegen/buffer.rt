@@ -1,15 +1,16 @@
-//! A buffer of fixed size.
+//! The array in which `Buffered` collects bytes; in clauses `buffer_items` are these. A *short* piece
+//! (`pieces`) is put by copies, which may change as many bytes as its *seed* has.
 
 ghost use Rattle.std.specs.Prelude.{◌≡◌, ◌+◌, ◌≤◌, ◌++◌, [], false, length, IsTrue};
 ghost use Rattle.jzon_tree.specs.declared.codegen.buffer.TheConstants.{BUFFER_LEN};
 
 use crate::codegen::pieces::Piece;
 
-/// How many bytes a buffer holds at most. More are dearer to clear at the start of each call, and
-/// fewer make the writer be called more often.
+/// The capacity in bytes. More are dearer to clear for each printed value; with fewer the writer is
+/// called more often.
 const BUFFER_LEN: usize = 1024;
 
-/// The first `len` bytes of an array.
+/// Holds the first `len` of `bytes`.
 #[derive(Drop)]
 pub struct Buffer {
     pub(super) bytes: [u8; BUFFER_LEN],
@@ -21,7 +22,7 @@ pub struct Buffer {
 impl Buffer {
     ghost use Rattle.jzon_tree.specs.Private.Buffer.{buffer_items};
 
-    /// A buffer that holds nothing.
+    /// An empty buffer.
     #[inline(always)]
     pub(super) fn new() -> Buffer
         ensures items { buffer_items result ≡ [] }
@@ -33,7 +34,7 @@ impl Buffer {
         }
     }
 
-    /// How many more bytes there is room for.
+    /// How many more bytes fit.
     #[inline(always)]
     pub(super) fn free(&self) -> usize
         ensures { result + self.now.len ≡ BUFFER_LEN }
@@ -41,6 +42,7 @@ impl Buffer {
         BUFFER_LEN - self.len
     }
 
+    /// The bytes held.
     #[inline(always)]
     pub(super) fn as_slice(&self) -> &[u8]
         ensures { result.now ≡ buffer_items self.now }
@@ -48,7 +50,7 @@ impl Buffer {
         &self.bytes[..self.len]
     }
 
-    /// Adds bytes for which there is room.
+    /// Adds bytes that fit.
     #[inline(always)]
     pub(super) fn add(&mut self, bytes: &[u8])
         requires { self.old.len + length bytes.now ≤ BUFFER_LEN }
@@ -60,7 +62,8 @@ impl Buffer {
         self.len = end;
     }
 
-    /// Adds the piece if it is short, there is room for it and it needs no escape.
+    /// Adds the piece and returns `true`; or adds nothing, if the piece isn't short, needs an
+    /// escape, or its seed is longer than the free bytes.
     #[inline(always)]
     pub(super) fn put<P: Piece>(&mut self, piece: P) -> bool
         ensures done { IsTrue result → buffer_items self.new
@@ -71,7 +74,7 @@ impl Buffer {
         let Some(seed) = piece.seed() else {
             return false;
         };
-        // The length of each seed is known when this is compiled, so one comparison is left.
+        // A seed's length is a constant, so one comparison is left.
         if seed.len() > BUFFER_LEN || self.len > BUFFER_LEN - seed.len() {
             return false;
         }

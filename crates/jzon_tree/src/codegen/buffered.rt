@@ -1,5 +1,5 @@
-//! A writer with a buffer on the stack. In clauses `held` is what the writer has, and after it what
-//! is `untaken` in the buffer.
+//! A writer with a buffer on the stack. In clauses `untaken` are the buffer's bytes that the writer
+//! hasn't accepted, and `held` the writer's bytes followed by these.
 
 ghost use Rattle.std.specs.Prelude.{◌≡◌, ℕ, ◌+◌, ◌≤◌, [], length, take, MatchOption, OnErr, OnOk, IfNone, IsErr, IsSome};
 ghost use Rattle.std.specs.Io.KnownBytes.{Appends, Keeps};
@@ -10,28 +10,27 @@ use crate::codegen::pieces::Piece;
 use std::io::{self, ErrorKind, Write};
 use std::marker::{Brand, PhantomData};
 
-/// A number that only proofs use: how many bytes the writer had before the buffer was made. By it a
-/// clause says that none of these is lost.
+/// For proofs: how many bytes the writer had before the buffer was made, none of which is lost.
 pub(crate) trait Start {
     ghost start: { ℕ };
 }
 
-/// The 0 is unused: the proof of each call that passes `Brand` picks a number for this call.
+/// The 0 is unused: the proof of each call that passes `Brand` picks a number.
 impl Start for Brand {
     ghost start = { 0 };
 }
 
-/// Collects bytes, and writes them in order when the next don't fit. After an error of the writer,
-/// the bytes that it didn't accept are kept.
+/// Collects bytes, and writes them to `inner` when the next don't fit. Those that a failing writer
+/// didn't accept are kept. `S` is for proofs (`Start`).
 #[derive(Drop)]
 pub(crate) struct Buffered<'a, W, S> {
     pub(crate) inner: &'a mut W,
     buffer: Buffer,
-    /// How many of the bytes in `buffer` the writer has accepted.
+    /// How many bytes of `buffer` the writer has accepted.
     taken: usize,
     /// Whether the writer failed and left bytes in `buffer`.
     has_failed: bool,
-    /// The error slot: the error of a failed call, until that call returns it.
+    /// The error of `write_out_and_hold`, until `write` returns it.
     error: Option<io::Error>,
     since: PhantomData<S>,
     ghost within: { taken ≤ buffer.len },
@@ -40,7 +39,7 @@ pub(crate) struct Buffered<'a, W, S> {
 impl<'a, W: Write, S: Start> Buffered<'a, W, S> {
     ghost use Rattle.jzon_tree.specs.Private.Buffered.{held, untaken};
 
-    /// An empty buffer before the writer `inner`.
+    /// An empty buffer before the writer.
     #[inline(always)]
     pub(crate) fn new(inner: &'a mut W) -> Buffered<'a, W, S>
         ensures same_reference { result.inner.ghost_name ≡ inner.entry.ghost_name }
@@ -57,8 +56,9 @@ impl<'a, W: Write, S: Start> Buffered<'a, W, S> {
         }
     }
 
-    /// Ends a text whose writing returned `answer`: writes out the buffer, unless the writer has
-    /// failed already. So if a layout fails, all that is before is written.
+    /// Ends a text whose writing returned `answer`. Writes out the buffer, unless the writer has
+    /// failed: so if a layout's `order` fails, all before is written. A new error replaces
+    /// `answer`.
     #[inline(always)]
     pub(crate) fn finish(&mut self, answer: io::Result<()>) -> io::Result<()>
         ensures bytes { Keeps (held W.contents S.start self.old)
@@ -76,8 +76,8 @@ impl<'a, W: Write, S: Start> Buffered<'a, W, S> {
         }
     }
 
-    /// Writes all bytes that are held, without a flush of the writer. An error is the writer's, or
-    /// `WriteZero` where it accepted none.
+    /// Writes the untaken bytes, without a flush. An error is the writer's, or `WriteZero` where it
+    /// accepted none.
     #[cold]
     #[inline(never)]
     fn write_out(&mut self) -> io::Result<()>
@@ -86,7 +86,7 @@ impl<'a, W: Write, S: Start> Buffered<'a, W, S> {
         ensures all { OnOk result (untaken self.new ≡ []) }
         ensures empty { OnOk result (self.new.buffer.len ≡ 0) }
     {
-        // It stays so if the writer fails.
+        // It stays `true` if the writer fails.
         self.has_failed = true;
         while self.taken < self.buffer.len {
             let buffer = &self.buffer;
@@ -102,9 +102,9 @@ impl<'a, W: Write, S: Start> Buffered<'a, W, S> {
         Ok(())
     }
 
-    /// Writes all bytes, and then holds `buf`, or lets the writer take it if it is longer than the
-    /// buffer. Returns how many bytes were held or taken, or `None` after an error, which is stored
-    /// in the slot.
+    /// Writes out the buffer, and adds `buf` to it, or writes `buf` if it is longer than the
+    /// buffer. Returns how many bytes of `buf` were accepted, or `None` after an error, then in
+    /// `self.error`.
     #[cold]
     #[inline(never)]
     fn write_out_and_hold(&mut self, buf: &[u8]) -> Option<usize>
@@ -138,7 +138,7 @@ impl<W: Write, S: Start> Write for Buffered<'_, W, S> {
 
     ghost contents = { held W.contents S.start };
 
-    /// Holds the bytes if there is room for all of them. Otherwise writes out what is held first.
+    /// Adds the bytes to the buffer, which is written out first if they don't fit.
     #[inline(always)]
     fn write(&mut self, buf: &[u8]) -> io::Result<usize> {
         if buf.len() <= self.buffer.free() {
@@ -147,7 +147,7 @@ impl<W: Write, S: Start> Write for Buffered<'_, W, S> {
         }
         match self.write_out_and_hold(buf) {
             Some(count) => Ok(count),
-            // An error is stored then, so `Other` is never returned.
+            // An error is stored, so `Other` is never returned.
             None => Err(
                 self.error
                     .take()

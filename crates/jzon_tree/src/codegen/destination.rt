@@ -1,4 +1,5 @@
-//! Where a `TextGenerator` writes (docs/GENERATORS.md, "Custom layouts").
+//! Where a `TextGenerator` writes. `put` adds a whole piece of a text (`pieces`) in a few stores,
+//! or nothing. In clauses `Adds (Just bytes)` means that these bytes were added.
 
 ghost use Rattle.std.specs.Prelude.{◌≡◌, ℕ, List, Option, None, Some, IsTrue, false, refl};
 ghost use Rattle.std.specs.Borrow.{GName, sem, Lends};
@@ -8,11 +9,10 @@ ghost use Rattle.jzon_tree.specs.Generators.{bytes_in, with_bytes};
 use crate::codegen::pieces::Piece;
 use std::io::Write;
 
-/// A writer with the `put` of `Destination`. `Buffered` alone is one. By this trait `TextGenerator`
-/// names no struct with a ghost field, beside whose `&mut` the borrow checker admits no other type
-/// arguments.
+/// A writer with a `put`: `Buffered`. The trait hides its ghost field: beside a `&mut` of a struct
+/// with one, the borrow checker admits no other type arguments.
 pub(crate) trait Outlet: Write {
-    /// As `Buffer::put`.
+    /// Adds the piece, or returns `false` and adds nothing.
     fn put<P: Piece>(&mut self, piece: P) -> bool
         ensures done { IsTrue result → Adds (Just (P.text piece))
             (Self.Write.contents self.old) (Self.Write.contents self.new) }
@@ -20,8 +20,8 @@ pub(crate) trait Outlet: Write {
             ≡ Self.Write.contents self.old };
 }
 
-/// Where a `TextGenerator` writes: memory of its own, a borrowed writer, or such a writer with a
-/// buffer before it. The provided `put` adds nothing, so the generator then writes to the writer.
+/// Memory, a borrowed writer, or such a writer with a buffer. What `put` doesn't add is written to
+/// `writer`.
 pub trait Destination {
     /// The writer.
     type T: Write;
@@ -35,13 +35,13 @@ pub trait Destination {
     // The destination with this writer instead of its own.
     ghost with_writer: { Self → Self.T → Self };
 
-    /// Lends the writer.
+    /// Lends the writer; what it gets counts as the destination's (`writes_back`).
     fn writer(&mut self) -> &mut Self::T
         ensures* writes_back { sem 𝓛 (Lends Self.row Self.T.row self.entry result
             (with_writer self.old)) }
         ensures bytes { Self.T.contents result.now ≡ out self.old };
 
-    /// Adds the piece, or nothing.
+    /// Adds the piece, or returns `false`.
     #[inline(always)]
     fn put<P: Piece>(&mut self, piece: P) -> bool
         ensures done { IsTrue result → Adds (Just (P.text piece)) (out self.old) (out self.new) }
@@ -51,13 +51,12 @@ pub trait Destination {
         false
     }
 
-    // Another writer changes the bytes alone.
     ghost out_law: { (o : Self) (w : Self.T) → out (with_writer o w) ≡ Self.T.contents w };
 
     ghost lender_law: { (o : Self) (w : Self.T) → lender (with_writer o w) ≡ lender o };
 }
 
-/// Memory of its own. What `put` doesn't add is left to `writer`, by which the vector grows.
+/// A vector. `put` adds only what its capacity holds; by `writer` it grows.
 #[derive(Debug, Drop)]
 pub struct Memory {
     pub(super) bytes: Vec<u8>,
@@ -90,10 +89,11 @@ impl Destination for Memory {
         if self.bytes.capacity() - start < seed.len() {
             return false;
         }
-        // A vector lends no bytes beyond its length. What the piece doesn't need is cut off.
+        // The seed (it fits) is added first, for `Piece::put` to overwrite; its rest is cut off.
         let Ok(()) = self.bytes.extend_from_slice(seed) else {
             unreachable!()
         };
+        // `None`: the piece needs an escape.
         let Some(end) = piece.put(self.bytes.as_mut_slice(), start, true) else {
             self.bytes.truncate(start);
             return false;
@@ -107,7 +107,7 @@ impl Destination for Memory {
     ghost lender_law = { λ _ _. refl };
 }
 
-/// A borrowed writer, which takes nothing at once.
+/// A borrowed writer, without a `put` of its own.
 impl<'a, W: Write> Destination for &'a mut W {
     type T = W;
 
@@ -126,7 +126,7 @@ impl<'a, W: Write> Destination for &'a mut W {
     ghost lender_law = { λ _ _. refl };
 }
 
-/// A borrowed outlet.
+/// A borrowed outlet. As `&mut W` it would have no `put`.
 #[derive(Drop)]
 pub struct Through<'a, W> {
     pub(crate) outlet: &'a mut W,

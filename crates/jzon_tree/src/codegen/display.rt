@@ -1,5 +1,5 @@
-//! `Display` of a value (docs/RULES.md, "Layouts"). It writes to the formatter as it goes, and
-//! allocates nothing.
+//! `Display` of a value (docs/RULES.md, "Layouts"), without allocation. `WritesOnOk` says which
+//! text was written at `Ok`; an error is the formatter's.
 
 ghost use Rattle.std.specs.Prelude.{Some};
 ghost use Rattle.std.specs.Fmt.{WritesOnOk};
@@ -14,8 +14,7 @@ use crate::value::JsonValue;
 use jzon_base::util::plain::plain_len;
 use std::{fmt, str};
 
-/// A string without quotes, a number as `Number` shows it (NaN as `nan`), and all else as in the
-/// compact layout. An error is the formatter's.
+/// A string as it is, NaN as `nan`, and all else as in the compact layout.
 impl fmt::Display for JsonValue {
     ghost output = { λ value. Some (displayed (view value)) };
 
@@ -29,7 +28,7 @@ impl fmt::Display for JsonValue {
     }
 }
 
-/// Shows the value in the compact layout: strings in quotes, and NaN as `null`.
+/// Shows the value in the compact layout, NaN as `null`.
 #[cycle(show)]
 fn show<W: fmt::Write>(value: &JsonValue, f: &mut fmt::Formatter<W>) -> fmt::Result
     ensures { WritesOnOk W.write_str_gives f.old result (compact (view value.now)) f.new }
@@ -47,7 +46,7 @@ fn show<W: fmt::Write>(value: &JsonValue, f: &mut fmt::Formatter<W>) -> fmt::Res
     }
 }
 
-/// Shows the elements with their commas, in brackets.
+/// Shows the elements with commas, in brackets.
 #[cycle(show)]
 fn show_array<W: fmt::Write>(items: &[JsonValue], f: &mut fmt::Formatter<W>) -> fmt::Result
     ensures { WritesOnOk W.write_str_gives f.old result
@@ -61,13 +60,13 @@ fn show_array<W: fmt::Write>(items: &[JsonValue], f: &mut fmt::Formatter<W>) -> 
     f.write_str("]")
 }
 
-/// Shows the entries with their commas and colons, in braces.
+/// Shows the entries with commas and colons, in braces.
 #[cycle(show)]
 fn show_object<W: fmt::Write>(object: &Object, f: &mut fmt::Formatter<W>) -> fmt::Result
     ensures { WritesOnOk W.write_str_gives f.old result (compact (view_object object.now)) f.new }
 {
     f.write_str("{")?;
-    // By position, because the invariant says which entries are left from `index` on.
+    // By position, for the proof's loop invariant.
     for index in 0..object.len() {
         let (key, value) = object.pairs.get_at(index);
         show_comma(index > 0, f)?;
@@ -78,7 +77,7 @@ fn show_object<W: fmt::Write>(object: &Object, f: &mut fmt::Formatter<W>) -> fmt
     f.write_str("}")
 }
 
-/// Shows a comma, except before the first item.
+/// Shows a comma if `comma`: before each item but the first.
 fn show_comma<W: fmt::Write>(comma: bool, f: &mut fmt::Formatter<W>) -> fmt::Result
     ensures { WritesOnOk W.write_str_gives f.old result (comma_text comma) f.new }
 {
@@ -88,7 +87,7 @@ fn show_comma<W: fmt::Write>(comma: bool, f: &mut fmt::Formatter<W>) -> fmt::Res
     Ok(())
 }
 
-/// Shows the string in quotes, escaped. Runs of bytes that need no escape are shown whole.
+/// Shows the string in quotes, escaped; runs that need no escape are shown whole.
 fn show_string<W: fmt::Write>(text: &str, f: &mut fmt::Formatter<W>) -> fmt::Result
     ensures { WritesOnOk W.write_str_gives f.old result (quoted text.now) f.new }
 {
@@ -108,8 +107,8 @@ fn show_string<W: fmt::Write>(text: &str, f: &mut fmt::Formatter<W>) -> fmt::Res
     f.write_str("\"")
 }
 
-/// Shows a run of a string or an escape. Both are UTF-8, because an escape is ASCII, and a run ends
-/// where the text does, or before a byte below 128. So the error isn't reached.
+/// Shows a run or an escape. Both are UTF-8: an escape is ASCII, and a run ends at the text's end
+/// or before an ASCII byte. So `Err` isn't reached.
 fn show_bytes<W: fmt::Write>(bytes: &[u8], f: &mut fmt::Formatter<W>) -> fmt::Result
     ensures { WritesOnOk W.write_str_gives f.old result bytes.now f.new }
 {

@@ -1,8 +1,8 @@
-//! Goes over a value or an object, and calls the hooks of a generator. A hook whose name begins
-//! with `try_` stores its error in the slot (`error_slot`); `store` does so for the other hooks.
+//! Goes over a value, and calls the methods (*hooks*) of a generator. The error of a hook is stored
+//! in `slot` (`error_slot`), by a hook `try_..` or by `store`; nothing is written after it.
 //!
-//! After an error `PrintsIf` promises a prefix of a text only for valid values: parts that weren't
-//! read aren't known to be valid.
+//! In clauses `PrintsIf` and `PrintsValue` say which text was added; after an error a prefix, if
+//! the value is valid (`IsValue`), which isn't known of unread parts.
 
 ghost use Rattle.std.specs.Prelude.{◌≡◌, ◌-◌, ◌<◌, [], length, map, slice_index_or, OnOk, OnErr, IsSome};
 ghost use Rattle.jzon_base.specs.PairList.{keys_of};
@@ -21,12 +21,12 @@ use crate::value::JsonValue;
 use crate::value::inspect::{inspect, inspect_object, see_number};
 use std::io;
 
-/// Writes the value in the generator's style, counted from the indents that are open. The entries
-/// of each object are in the order that `order` returned for it.
+/// Writes the value in the generator's style, inside the indents that are open. The entries of each
+/// object are in the order that `order` returned.
 ///
-/// An `Err` is that of the first hook that failed. Nothing is written after it: the bytes added are
-/// a prefix of a text of the value, and the indents that were open then stay open. It is
-/// returned after one more pass over the whole value, which only the proof needs.
+/// An `Err` is that of the first hook that failed. The bytes added are then a prefix of a text of
+/// the value, and the open indents stay open. The whole value is read once more, which only the
+/// proof needs.
 ///
 /// ```rust
 /// match write_json(&mut generator, value) {
@@ -42,14 +42,13 @@ pub fn write_json<G: Generator>(g: &mut G, json: &JsonValue) -> io::Result<()>
     let mut slot = None;
     let step = write_value(g, json, &mut slot);
     if step.is_err() {
-        // Both clauses speak of the whole value, also of the parts that weren't written. `inspect`
-        // ensures that it is one (`IsValue`).
         let _found = inspect(json);
     }
     take_result(step, slot)
 }
 
-/// Writes the object in the generator's style, as `write_json` writes a value.
+/// Writes the object in the generator's style. An `Err` is that of the first hook that failed; a
+/// prefix of the object's text is then added.
 pub fn write_object<G: Generator>(g: &mut G, object: &Object) -> io::Result<()>
     ensures written { Prints (Writes (G.meaning g.old).style (G.meaning g.old).dent
         (view_object object.now))
@@ -59,15 +58,14 @@ pub fn write_object<G: Generator>(g: &mut G, object: &Object) -> io::Result<()>
     let mut slot = None;
     let step = write_pairs(g, object, &mut slot);
     if step.is_err() {
-        // As in `write_json`: `inspect_object` ensures that all its values are values (`IsValue`).
+        // For the proof: unwritten parts are valid too.
         let _found = inspect_object(object);
     }
     take_result(step, slot)
 }
 
-/// Writes the value by the generator's hooks. If a hook fails, its error is in the slot, and no
-/// other hook that writes is called. Inlined into the loops over elements and entries, so that only
-/// containers recurse.
+/// Writes the value. Inlined into the loops over elements and entries, so that only containers
+/// recurse.
 #[inline(always)]
 #[cycle(write_value)]
 #[tactic(auto, using(crate::proofs::Values::Views::views))]
@@ -95,8 +93,7 @@ pub(crate) fn write_value<G: Generator>(
     }
 }
 
-/// Writes `[]`, or the brackets of an array and its elements between them, in an indent of their
-/// own.
+/// Writes `[]`, or the brackets and, with one more indent open, the elements.
 #[cycle(write_value)]
 #[inline(never)]
 fn write_array<G: Generator>(g: &mut G, items: &[JsonValue], slot: &mut ErrorSlot) -> SlotResult<()>
@@ -114,7 +111,7 @@ fn write_array<G: Generator>(g: &mut G, items: &[JsonValue], slot: &mut ErrorSlo
     close(g, b']', slot)
 }
 
-/// Writes the elements of an array, each on its line and after a comma, except the first.
+/// Writes the elements, each after a comma, except the first, and whitespace.
 #[cycle(write_value)]
 fn write_items<G: Generator>(g: &mut G, items: &[JsonValue], slot: &mut ErrorSlot) -> SlotResult<()>
     ensures written { PrintsIf (AreValues (view_values items.now))
@@ -130,8 +127,8 @@ fn write_items<G: Generator>(g: &mut G, items: &[JsonValue], slot: &mut ErrorSlo
     Ok(())
 }
 
-/// Asks for the order of the entries. Then writes `{}`, or the brackets of an object and its
-/// entries between them, in an indent of their own.
+/// Asks for the order of the entries. Writes `{}`, or the braces and, with one more indent open,
+/// the entries.
 #[cycle(write_value)]
 #[inline(never)]
 pub(crate) fn write_pairs<G: Generator>(
@@ -154,8 +151,8 @@ pub(crate) fn write_pairs<G: Generator>(
     close(g, b'}', slot)
 }
 
-/// Writes each entry after whitespace, and a comma before each but the first, in the order that the
-/// hook `order` returned.
+/// Writes the entries in the order returned by the hook `order`, each after a comma, except the
+/// first, and whitespace.
 #[cycle(write_value)]
 fn write_members<G: Generator>(
     g: &mut G,
@@ -180,8 +177,8 @@ fn write_members<G: Generator>(
     Ok(())
 }
 
-/// The position of the entry that is written after `index` others. `count`, the number of entries,
-/// is an argument only for the clauses.
+/// The position of the entry that is written after `index` others; `None` is the order of
+/// insertion. `count`, the number of entries, is for the clauses.
 fn position_of(order: &Option<Vec<usize>>, index: usize, count: usize) -> usize
     requires index_in_range { index < length (positions count order.now) }
     ensures { result ≡ slice_index_or (positions count order.now) index 0 }
@@ -192,6 +189,7 @@ fn position_of(order: &Option<Vec<usize>>, index: usize, count: usize) -> usize
     }
 }
 
+/// Writes the key, its colon and the value.
 #[cycle(write_value)]
 fn write_pair<G: Generator>(
     g: &mut G,
@@ -209,7 +207,7 @@ fn write_pair<G: Generator>(
     write_value(g, value, slot)
 }
 
-/// Writes what precedes an item: a comma, except before the first, and a new line.
+/// Writes what precedes an element or entry: a comma if `comma`, and whitespace.
 #[inline(always)]
 fn begin_item<G: Generator>(g: &mut G, comma: bool, slot: &mut ErrorSlot) -> SlotResult<()>
     ensures bytes { Emits (IsBetween (G.meaning g.old).style (G.meaning g.old).dent comma)
@@ -222,8 +220,7 @@ fn begin_item<G: Generator>(g: &mut G, comma: bool, slot: &mut ErrorSlot) -> Slo
     g.try_new_line(slot)
 }
 
-/// Closes an indent, and writes whitespace and the bracket. After an `Err` the indent is closed
-/// too.
+/// Closes an indent, also if a write then fails, and writes whitespace and the bracket.
 #[inline(always)]
 fn close<G: Generator>(g: &mut G, bracket: u8, slot: &mut ErrorSlot) -> SlotResult<()>
     requires { 0 < (G.meaning g.old).dent }

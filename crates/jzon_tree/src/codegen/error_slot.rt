@@ -1,8 +1,6 @@
-//! Keeps an 88-byte `io::Error` out of return values: it is stored in a slot, and a one-byte
-//! `Failed` is returned.
-//!
-//! In clauses `Sends (Just bytes)` says that a writer received these bytes, or after an error a
-//! prefix of them.
+//! Keeps the 88 bytes of an `io::Error` out of return values: it is stored in a variable, the
+//! *slot*, and `Failed` is returned. In clauses `Sends (Just bytes)` says that a writer received
+//! these bytes, or after an error a prefix.
 #![tactic(auto, using(crate::proofs::Printing::Appends::sent))]
 
 ghost use Rattle.std.specs.Prelude.{◌≡◌, ◌≤◌, Some, Ok, IfErr, IsErr, IsSome, OnOk, OnErr, MatchResult, length, drop};
@@ -11,7 +9,7 @@ ghost use Rattle.jzon_tree.specs.Generator.{Sends, Just};
 use jzon_base::util::write_bytes;
 use std::io::{self, ErrorKind, Write};
 
-/// Holds the error of a call that failed.
+/// The error of a failed call, or `None`.
 pub type ErrorSlot = Option<io::Error>;
 
 /// A call failed; its error is in the slot.
@@ -21,7 +19,7 @@ pub struct Failed;
 /// The result of a call whose error is stored.
 pub type SlotResult<T> = Result<T, Failed>;
 
-/// Stores an error in the slot, and returns `Failed` for it.
+/// Moves an error into the slot, and returns `Failed`.
 #[inline]
 pub(super) fn store<T>(answer: io::Result<T>, slot: &mut ErrorSlot) -> SlotResult<T>
     ensures answer { MatchResult answer (λ x. result ≡ Ok x) (λ _. IsErr result) }
@@ -37,7 +35,7 @@ pub(super) fn store<T>(answer: io::Result<T>, slot: &mut ErrorSlot) -> SlotResul
     }
 }
 
-/// The result with the stored error in place of `Failed`.
+/// The result with the slot's error in place of `Failed`.
 #[inline]
 pub(super) fn take_result(step: SlotResult<()>, slot: ErrorSlot) -> io::Result<()>
     requires { OnErr step (IsSome slot) }
@@ -50,8 +48,8 @@ pub(super) fn take_result(step: SlotResult<()>, slot: ErrorSlot) -> io::Result<(
     }
 }
 
-/// Writes the bytes, of which a prefix is written if the writer fails; its error is then in the
-/// slot. If there are none, the writer isn't called: its 0 would count as an error.
+/// Writes the bytes, or a prefix if the writer fails; its error is then in the slot. For no bytes,
+/// such as an empty run of a string, the writer isn't called.
 #[inline(always)]
 pub(super) fn send<W: Write>(writer: &mut W, bytes: &[u8], slot: &mut ErrorSlot) -> SlotResult<()>
     ensures bytes { Sends (Just bytes.now) (W.contents writer.old) (W.contents writer.new) result }
@@ -68,8 +66,8 @@ pub(super) fn send<W: Write>(writer: &mut W, bytes: &[u8], slot: &mut ErrorSlot)
     Ok(())
 }
 
-/// Writes the bytes after the first `count`, which the writer took. Cold, because most writers take
-/// all at once. If the writer took none, the error is `WriteZero`.
+/// Writes the bytes after the first `count`, which the writer took; if it took none, the error is
+/// `WriteZero`. Cold, because most writers take all at once.
 #[cold]
 #[inline(never)]
 fn send_rest<W: Write>(

@@ -1,5 +1,7 @@
-//! The trait `Generator`: its hooks, and the provided methods. In clauses `Emits (Just bytes)` says
-//! that a hook added these bytes, or failed after a prefix of them and counted a fault.
+//! The trait `Generator`. Its methods are *hooks*, which count their errors as *faults*; its
+//! *style* tests a text's whitespace, colons and orders. In clauses `Emits (Just bytes)` says that
+//! a hook added these bytes, or failed after a prefix and counted a fault. A hook `try_x` is `x`,
+//! but stores its error in a slot (`error_slot`).
 
 ghost use Rattle.std.specs.Prelude.{◌≡◌, ◌+◌, ◌-◌, ◌<◌, ◌≤◌, ◌^◌, ◌∷◌, ◌++◌, [], length, take, drop, MatchResult, OnErr, IsSome};
 ghost use Rattle.std.specs.Borrow.{sem, Lends};
@@ -18,12 +20,10 @@ use jzon_base::util::plain::plain_len;
 use jzon_base::util::print_dec::number_text;
 use std::io::{self, ErrorKind, Write};
 
-/// Writes values, piece by piece, to a writer: `write_json` and `write_object` go over a value and
-/// call its hooks.
+/// Writes values, piece by piece: `write_json` and `write_object` call its hooks.
 ///
-/// Where only the number of spaces or the order of entries differs from the generators of the
-/// crate, a `Layout` is enough. Write a generator for other whitespace, or for a writer that is
-/// part of a type of your own. This one begins lines with tabs:
+/// For another number of spaces or order of entries, a `Layout` is enough. Write a generator for
+/// other whitespace, or a writer in a type of your own. This one begins lines with tabs:
 ///
 /// ```rust
 /// fn write_min(&mut self, slice: &[u8], _min: u8) -> io::Result<()> {
@@ -36,44 +36,44 @@ use std::io::{self, ErrorKind, Write};
 /// }
 /// ```
 ///
-/// | Hook | Is called for |
-/// |---|---|
-/// | `order` | an object, before anything of it is written |
-/// | `write` | `null`, `true`, `false`, `[]` and `{}` |
-/// | `write_string`, `write_number` | a string or a key; a number |
-/// | `write_min` | the colon after a key |
-/// | `write_char` | each comma, and the brackets of a container that isn't empty |
-/// | `new_line` | the whitespace before an element, an entry and such a closing bracket |
-/// | `indent`, `dedent` | after such an opening bracket, and before the `new_line` of the closing one |
+/// The hooks are called for:
 ///
-/// docs/GENERATORS.md, "Hooks", says what each of them must do, and what an `Err` means.
+/// - `order`: an object, before anything of it is written
+/// - `write`: `null`, `true`, `false`, `[]` and `{}`
+/// - `write_string`, `write_number`: a string or a key; a number
+/// - `write_min`: the colon after a key
+/// - `write_char`: each comma, and the brackets of a container that isn't empty
+/// - `new_line`: the whitespace before an element, an entry and such a closing bracket
+/// - `indent`, `dedent`: after such an opening bracket, and before the `new_line` of the closing one
+///
+/// docs/GENERATORS.md, "Hooks", says what each must do, and what an `Err` means.
 pub trait Generator {
     /// The writer.
     type T: Write;
 
-    // The state of which the contracts speak.
+    // The bytes, open indents, faults, style, and the reference written through.
     ghost meaning: { Self → Emitted };
 
     // The generator with this writer instead of its own.
     ghost with_writer: { Self → Self.T → Self };
 
-    /// Lends the writer.
+    /// Lends the writer, whose bytes are the generator's. Faults don't change.
     fn get_writer(&mut self) -> &mut Self::T
         ensures* writes_back { sem 𝓛 (Lends Self.row Self.T.row self.entry result
             (with_writer self.old)) }
         ensures bytes { Self.T.contents result.now ≡ (meaning self.old).out };
 
-    /// Adds `slice` if the style allows a space after a colon, or the byte `min` if it allows a
-    /// bare colon. The crate's calls pass `": "` and `':'`; the contract speaks of any bytes.
+    /// Adds `slice` if the style allows a space after a colon, or `min` if it allows a bare colon.
+    /// The crate passes `": "` and `':'`.
     fn write_min(&mut self, slice: &[u8], min: u8) -> io::Result<()>
         ensures { Emits (IsForm (meaning self.old).style slice.now min)
             (meaning self.old) (meaning self.new) result };
 
-    /// How many faults there were.
+    /// How many errors were counted.
     fn faults(&self) -> u64
         ensures { result ≡ (meaning self.now).faults };
 
-    /// How many indents are open.
+    /// How many indents are open: one for each non-empty container being written.
     fn dent(&self) -> u64
         ensures { result ≡ (meaning self.now).dent };
 
@@ -82,11 +82,11 @@ pub trait Generator {
         ensures { meaning self.new
             ≡ record (meaning self.old) { faults = noted (meaning self.old).faults } };
 
-    /// Opens or closes indents, so that `dent` of them are open.
+    /// Sets the number of open indents.
     fn set_dent(&mut self, dent: u64)
         ensures { meaning self.new ≡ record (meaning self.old) { dent = dent } };
 
-    /// Returns `answer`, the result of a call of the writer, and counts a fault if it is an error.
+    /// Returns `answer`, a writer's result, and counts a fault if it is an error.
     #[inline]
     fn hand_on(&mut self, answer: io::Result<()>) -> io::Result<()>
         ensures result { result ≡ answer }
@@ -116,7 +116,7 @@ pub trait Generator {
         self.hand_on(take_result(step, slot))
     }
 
-    /// Adds whitespace alone, as the style allows at the open indents.
+    /// Adds whitespace that the style allows for the open indents.
     fn new_line(&mut self) -> io::Result<()>
         ensures { Emits (IsAllowedWhitespace (meaning self.old).style (meaning self.old).dent)
             (meaning self.old) (meaning self.new) result };
@@ -157,8 +157,8 @@ pub trait Generator {
         self.write_string_complex(string, plain_len(string.as_bytes()))
     }
 
-    /// Adds the bytes before `start` as they are, those from `start` on escaped, and the closing
-    /// quote, by `write` and `write_char`.
+    /// Ends a string after its opening quote: adds the bytes before `start` as they are, the others
+    /// escaped, and the closing quote.
     fn write_string_complex(&mut self, string: &str, start: usize) -> io::Result<()>
         requires { start ≤ length string.now }
         ensures { Emits (Just (take start string.now
@@ -183,16 +183,15 @@ pub trait Generator {
         self.write(text.as_str().as_bytes())
     }
 
-    /// The order in which the entries of the object are written, as their positions, each exactly
-    /// once; `None` is the order of insertion. No byte is added. An `Err` counts a fault.
+    /// The order in which the object's entries are written, as their positions, each once; `None`
+    /// is that of insertion. Adds no byte. An `Err` counts a fault.
     fn order(&mut self, object: &Object) -> io::Result<Option<Vec<usize>>>
         ensures { MatchResult result
             (λ answer. Added (Just []) (meaning self.old) (meaning self.new)
             × IsAnswer (meaning self.old).style (keys_of (entries_of object.now)) answer)
             (λ _. Failed (Just []) (meaning self.old) (meaning self.new)) };
 
-    /// `write`, as `write_json` calls it: an error is stored in the slot. This hook and those below
-    /// are not for overriding in other crates: the types of the slot are private.
+    /// No `try_..` is for overriding in other crates: the slot's types are private.
     #[doc(hidden)]
     fn try_write(&mut self, slice: &[u8], slot: &mut ErrorSlot) -> SlotResult<()>
         ensures bytes { Emits (Just slice.now) (meaning self.old) (meaning self.new) result }
@@ -217,9 +216,8 @@ pub trait Generator {
         store(self.write_string(string), slot)
     }
 
-    /// Adds the prefix as it is, the text escaped, and the closing quote, by `write` and
-    /// `write_char`. The prefix begins with the opening quote, unless this is written already. Runs
-    /// of bytes that need no escape are written whole.
+    /// Adds the prefix as it is, the text escaped, and the closing quote. The prefix begins with
+    /// the opening quote, unless this is written already. Runs that need no escape are written whole.
     #[doc(hidden)]
     #[inline(never)]
     fn try_write_escaped(
@@ -248,8 +246,7 @@ pub trait Generator {
         self.try_write_char(b'"', slot)
     }
 
-    /// Adds a key in quotes and its colon, by `write_string` and `write_min`. It is one call, so
-    /// that a generator into memory can add both at once.
+    /// Adds a key and its colon; a generator into memory adds both at once.
     #[doc(hidden)]
     fn try_write_key(&mut self, key: &str, slot: &mut ErrorSlot) -> SlotResult<()>
         ensures bytes { Emits (IsPrintedKey (meaning self.old).style key.now) (meaning self.old)

@@ -1,5 +1,5 @@
-//! Layouts: the whitespace of a text, which is written here, and the order of an object's entries
-//! (docs/GENERATORS.md, "Custom layouts").
+//! Layouts: the whitespace of a text, and the order of an object's entries (docs/GENERATORS.md,
+//! "Custom layouts"). A writer's error is stored in `slot` (`error_slot`).
 
 ghost use Rattle.std.specs.Prelude.{◌≡◌, ◌+◌, ◌<◌, ◌≤◌, length, take, ◌∷◌, ◌++◌, Bool, true, false, IsTrue, IfOk, Ok, None, OnErr, IsSome, replicate};
 ghost use Rattle.jzon_base.specs.PairList.{keys_of};
@@ -14,21 +14,21 @@ use crate::object::Object;
 use std::alloc::AllocError;
 use std::io::Write;
 
-/// Spaces after the first 63 of a line; one write has at most 512 of them.
+/// Spaces of a line that begins with more than 63: up to 512 are written at once.
 const SPACES: [u8; 512] = [b' '; 512];
 
-/// How many bytes of a line's start are copied at once.
+/// How many bytes are copied for a newline and up to 7 spaces.
 pub(super) const LINE_ROOM: usize = 8;
 
-/// The newline, and the 63 spaces that are written with it.
+/// A newline, and the 63 spaces that are written with it at most.
 pub(super) const NEWLINE_AND_SPACES: [u8; 64] =
     *b"\n                                                               ";
 
-/// The layout of a text: how many spaces begin its lines, if it has lines, and the order of an
-/// object's entries. `JsonValue::lay_out` and `write_layout` take one, and `TextGenerator`.
+/// How many spaces begin a text's lines, if it has lines, and the order of an object's entries.
+/// `JsonValue::lay_out`, `write_layout` and `TextGenerator` take one.
 ///
-/// Write one for another order. It has a style and two methods; this one, the example
-/// `sorted_layout` of `jzon_tools`, sorts by key:
+/// Write one for another order: a style, the texts that it allows, and two methods. This one, the
+/// example `sorted_layout` of `jzon_tools`, sorts by key:
 ///
 /// ```rust
 /// fn spaces(&self) -> Option<u16> {
@@ -48,14 +48,14 @@ pub trait Layout {
     // Whether `order` always returns `None`.
     ghost keeps_order: { Self → Bool } = { λ _. false };
 
-    /// The number of spaces for each open indent, if each element and entry has its own line and a
-    /// space follows each colon; `None` for no whitespace at all.
+    /// The spaces for each open indent, if each element and entry has its own line and a space
+    /// follows each colon; `None` for no whitespace.
     fn spaces(&self) -> Option<u16>
         ensures { LaysOut (style self.now) result };
 
-    /// The order of the object's entries, as their positions, each exactly once; `None` is the
-    /// order of insertion. It is asked once for each object, also an empty one, before anything of
-    /// it is written. An `Err` ends the writing; it is reported as out of memory.
+    /// The order of the object's entries, as their positions, each once; `None` is that of
+    /// insertion. It is asked before each object, also an empty one, is written. An `Err` ends the
+    /// writing, and is reported as out of memory.
     fn order(&self, object: &Object) -> Result<Option<Vec<usize>>, AllocError>
         ensures allowed { IfOk result (IsAnswer (style self.now)
             (keys_of (entries_of object.now))) }
@@ -64,7 +64,6 @@ pub trait Layout {
     ghost style_law: { (l : Self) → IsStyle (style l) };
 }
 
-/// A layout that is borrowed.
 impl<L: Layout> Layout for &L {
     ghost style = { λ l. L.style l.now };
 
@@ -83,8 +82,7 @@ impl<L: Layout> Layout for &L {
     ghost style_law = { λ l. L.style_law l.now };
 }
 
-/// No whitespace, and a colon alone after a key, as `{"a":[1,2]}`. Entries are written in the order
-/// of insertion.
+/// No whitespace, as `{"a":[1,2]}`, and entries in the order of insertion.
 #[derive(Clone, Copy, Debug)]
 pub struct Compact;
 
@@ -107,7 +105,7 @@ impl Layout for Compact {
 }
 
 /// A line for each element and entry: a newline and this number of spaces for each open indent, and
-/// a space after each colon. Entries are written in the order of insertion. `Pretty(2)` gives
+/// a space after each colon. Entries are in the order of insertion. `Pretty(2)` gives
 ///
 /// ```text
 /// {
@@ -137,8 +135,8 @@ impl Layout for Pretty {
     ghost style_law = { λ l. IsStyle-pretty l.0 };
 }
 
-/// Writes a newline and `spaces` spaces. Most lines begin with few, of which up to 63 are written
-/// with the newline. `spaces` is an indent count, a `u64`, times a `u16`, so it needs a `u128`.
+/// Writes a newline and `spaces` spaces, of which up to 63, enough for most lines, go with the
+/// newline. An indent count, a `u64`, times a `u16` needs a `u128`.
 #[inline(always)]
 pub(super) fn send_line<W: Write>(
     writer: &mut W,
@@ -157,7 +155,7 @@ pub(super) fn send_line<W: Write>(
     Ok(())
 }
 
-/// Puts a newline and 7 spaces at an offset. The bytes before it stay.
+/// Puts a newline and 7 spaces at an offset, by one copy; a caller may need fewer.
 #[inline(always)]
 pub(super) fn put_newline_and_spaces(room: &mut [u8], start: usize)
     requires { start + 8 ≤ length room.old }
@@ -167,7 +165,7 @@ pub(super) fn put_newline_and_spaces(room: &mut [u8], start: usize)
     room[start..start + LINE_ROOM].copy_from_slice(&NEWLINE_AND_SPACES[..LINE_ROOM]);
 }
 
-/// Writes `spaces` spaces, 512 at a time. Cold, because few lines begin with more than 63.
+/// Writes the spaces, 512 at a time. Cold, because few lines begin with more than 63.
 #[cold]
 #[inline(never)]
 fn send_spaces<W: Write>(writer: &mut W, spaces: u128, slot: &mut ErrorSlot) -> SlotResult<()>

@@ -1,4 +1,6 @@
-//! Pieces of a text that are put in a few stores, if they are short and there is room.
+//! *Pieces* of a text, such as a number. A *short* one can be *put*: stored by a few copies of
+//! fixed length. A vector lends no bytes beyond its length, so it is first extended by a *seed*: as
+//! many bytes as the copies may change, some of which are right already.
 
 ghost use Rattle.std.specs.Prelude.{◌≡◌, ◌+◌, ◌<◌, ◌≤◌, ◌++◌, ◌∷◌, [], ⊤, ℕ, List, None, IfNone, IfSome, IsTrue, length, take, drop, replicate};
 ghost use Rattle.jzon_base.specs.Decimal.{parts_of};
@@ -15,25 +17,24 @@ use crate::codegen::strings::{BY_ENDS_MAX_LEN, BY_ENDS_ROOM, put_quoted};
 use jzon_base::number::Number;
 use jzon_base::util::print_dec::{DIGITS_ROOM, is_common, put_digits};
 
-/// The seed of a key; that of any other string is a part of it. So the quotes around a string are
-/// there already.
+/// The seed of a key, with its colon and space; a part is that of any other string. The quotes
+/// around a string are there already.
 const QUOTES: [u8; BY_ENDS_ROOM + 2] = [b'"'; BY_ENDS_ROOM + 2];
 
-/// The seed of a number: where one begins with a minus, it is there already.
+/// The seed of a number: a minus is there already.
 const MINUSES: [u8; DIGITS_ROOM] = [b'-'; DIGITS_ROOM];
 
-/// A piece of a text.
 pub trait Piece: Copy {
     // Its bytes.
     ghost text: { Self → List ℕ };
 
-    // It is put in a few stores.
+    // It can be put.
     ghost is_short: { Self → Type 0 };
 
     // As many bytes as `put` may change, some of which it then needn't store.
     ghost seed_bytes: { Self → List ℕ };
 
-    /// The byte, if the piece is a byte: a vector takes it in fewer stores than a seed.
+    /// The byte, if the piece is one: a vector takes it in fewer stores than a seed.
     #[inline(always)]
     fn as_byte(self) -> Option<u8>
         ensures { IfSome result (λ byte. text self ≡ byte ∷ []) }
@@ -41,7 +42,7 @@ pub trait Piece: Copy {
         None
     }
 
-    /// The bytes by which a vector is extended before `put`, if the piece is short.
+    /// The seed, or `None` if the piece isn't short.
     fn seed(self) -> Option<&'static [u8]>
         ensures some { IfSome result (λ seed. is_short self × (seed.now ≡ seed_bytes self)) }
         ensures none { IfNone result (¬ (is_short self)) };
@@ -59,7 +60,6 @@ pub trait Piece: Copy {
         ensures len { length room.new ≡ length room.old };
 }
 
-/// A byte.
 impl Piece for u8 {
     ghost text = { λ byte. byte ∷ [] };
 
@@ -85,7 +85,7 @@ impl Piece for u8 {
     }
 }
 
-/// A string, which is added in quotes and escaped.
+/// A string that is printed in quotes; it is put if it needs no escape.
 #[derive(Clone, Copy)]
 pub struct Quoted<'a>(pub &'a [u8]);
 
@@ -110,7 +110,7 @@ impl Piece for Quoted<'_> {
     }
 }
 
-/// A key as such a string, with its colon and, if `true`, a space.
+/// A key in quotes, with a colon and, if `true`, a space.
 #[derive(Clone, Copy)]
 pub struct QuotedKey<'a>(pub &'a [u8], pub bool);
 
@@ -121,8 +121,7 @@ impl Piece for QuotedKey<'_> {
 
     ghost seed_bytes = { λ _. replicate (BY_ENDS_ROOM + 2) quotation_mark };
 
-    /// None of a key that is longer than `put_quoted` puts, by a copy of its first and of its last
-    /// bytes.
+    /// `None` for more than `BY_ENDS_MAX_LEN` (32) bytes.
     #[inline(always)]
     fn seed(self) -> Option<&'static [u8]> {
         if self.0.len() > BY_ENDS_MAX_LEN {
@@ -134,6 +133,7 @@ impl Piece for QuotedKey<'_> {
     #[inline(always)]
     fn put(self, room: &mut [u8], start: usize, seeded: bool) -> Option<usize> {
         let end = put_quoted(room, start, self.0, seeded)?;
+        // The space is counted only if wanted.
         room[end] = b':';
         room[end + 1] = b' ';
         Some(end + 1 + usize::from(self.1))
@@ -144,13 +144,13 @@ impl Piece for QuotedKey<'_> {
 impl Piece for Number {
     ghost text = { written_text };
 
-    // The parts of NaN have the mantissa 0.
+    // NaN has the mantissa 0, so it isn't short.
     ghost is_short = { λ number. IsCommon (parts_of number).1 (parts_of number).2 };
 
     ghost seed_bytes = { λ _. replicate DIGITS_ROOM minus_sign };
 
-    /// None of a number that isn't common, which `put_digits` can't put: 0, and those with a
-    /// positive exponent, more than 16 places or no digit before the point.
+    /// `None` for what `put_digits` can't put: NaN, 0, and numbers with a positive exponent, more
+    /// than 16 digits after the point or none before it.
     #[inline(always)]
     fn seed(self) -> Option<&'static [u8]> {
         let (_, mantissa, exponent) = self.as_parts();
@@ -162,6 +162,7 @@ impl Piece for Number {
 
     #[inline(always)]
     fn put(self, room: &mut [u8], start: usize, seeded: bool) -> Option<usize> {
+        // `put_digits` needs the minus; a positive number overwrites it.
         if !seeded {
             room[start] = b'-';
         }
@@ -170,7 +171,7 @@ impl Piece for Number {
     }
 }
 
-/// A newline and this many spaces.
+/// A newline and this many spaces. The seed has 7, the most of a short one.
 #[derive(Clone, Copy)]
 pub struct Line(pub u128);
 

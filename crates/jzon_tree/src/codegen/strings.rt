@@ -1,4 +1,5 @@
-//! Strings and their escapes (docs/RULES.md, "Printed values").
+//! Strings and their escapes (docs/RULES.md, "Printed values"). In clauses `PutsPlain` says that a
+//! string was put and the next byte stays; at `false`, that all bytes stay.
 
 ghost use Rattle.std.specs.Prelude.{◌≡◌, ◌+◌, ◌≤◌, ◌++◌, false, None, length, take, drop, replicate, IsTrue, IfSome};
 ghost use Rattle.jzon_base.specs.Private.PlainBytes.{is_plain};
@@ -10,18 +11,18 @@ use jzon_base::util::escapes::{hex_digit, letter_of};
 use jzon_base::util::plain::is_plain_by_ends;
 use std::simd::Simd;
 
-/// The length of the longest escape.
+/// The length of the longest escape, such as `\u001f`.
 pub(super) const ESCAPE_MAX_LEN: usize = 6;
 
-/// The most bytes of a string that is added by two copies, of its first and of its last bytes.
+/// The most bytes of a string that is put by two copies, of its first and of its last bytes.
 pub(super) const BY_ENDS_MAX_LEN: usize = 32;
 
-/// The room that such a string takes with its quotes, at most.
+/// The most bytes of such a string (`BY_ENDS_MAX_LEN`) in quotes.
 pub(super) const BY_ENDS_ROOM: usize = BY_ENDS_MAX_LEN + 2;
 
-/// Puts a string of at most `BY_ENDS_MAX_LEN` bytes in quotes at an offset if it needs no escape, and
-/// returns its end. The bytes before the offset stay; if `seeded`, the next `BY_ENDS_ROOM` are quotes
-/// already.
+/// Puts a string of at most 32 bytes in quotes at an offset, and returns its end, or `None` if it
+/// needs an escape. The bytes before the offset stay; if `seeded`, the next `BY_ENDS_ROOM` are
+/// quotes.
 #[inline(always)]
 pub(super) fn put_quoted(
     room: &mut [u8],
@@ -50,8 +51,9 @@ pub(super) fn put_quoted(
     Some(end)
 }
 
-/// Puts a string of at most `BY_ENDS_MAX_LEN` bytes at an offset if it needs no escape, and returns whether it
-/// did. The byte after the string stays, which is the closing quote of the caller.
+/// Puts a string of at most 32 bytes at an offset if it needs no escape, and returns whether it did.
+/// The next byte, the caller's quote, stays. In each case two copies of fixed length suffice. Up to
+/// 3 bytes have a `match` of their own, so that longer strings take fewer tests.
 #[inline(always)]
 fn put_if_plain(bytes: &mut [u8], offset: usize, string: &[u8]) -> bool
     requires few { length string.now ≤ BY_ENDS_MAX_LEN }
@@ -70,8 +72,8 @@ fn put_if_plain(bytes: &mut [u8], offset: usize, string: &[u8]) -> bool
     }
 }
 
-/// Puts a string of `N` to `2 * N` bytes if it needs no escape: the first `N` and the last `N`,
-/// which may overlap. `M` is `2 * N`. All other bytes stay.
+/// Puts `N` to `2 * N` bytes if they need no escape, and returns whether it did: the first `N` and
+/// the last `N`, which may overlap.
 #[inline(always)]
 fn put_ends<const N: usize, const M: usize>(bytes: &mut [u8], at: usize, string: &[u8]) -> bool
     requires lanes { (M ≤ 32) × (M ≡ N + N) }
@@ -88,13 +90,13 @@ fn put_ends<const N: usize, const M: usize>(bytes: &mut [u8], at: usize, string:
     true
 }
 
-/// Puts the escape of a byte that needs one at the end of `room`, and returns its start.
+/// Puts the escape of a byte at the end of `room`, and returns where it begins.
 pub(super) fn put_escape(room: &mut [u8; ESCAPE_MAX_LEN], byte: u8) -> usize
     requires { is_plain byte ≡ false }
     ensures start { result ≤ ESCAPE_MAX_LEN }
     ensures text { drop result room.new ≡ escaped_byte byte }
 {
-    // A simple escape, such as `\n`. Each other byte that needs an escape is below 32.
+    // A simple escape, such as `\n`. Each other byte that needs one is below 32.
     if let Some(letter) = letter_of(byte) {
         *room = [0, 0, 0, 0, b'\\', letter];
         return 4;

@@ -1,6 +1,8 @@
-//! The generators of the crate: they write a text in a layout, into memory of their own or to a
-//! borrowed writer. `put` of the destination adds a piece or nothing; if nothing, the bytes go to
-//! the destination's writer, by `send`.
+//! The crate's generators, which write a text in a layout. What the destination doesn't `put` goes
+//! to its writer. In clauses `text_meaning` is a generator's state, `fresh` one without open
+//! indents or *faults* (counted errors); `Emits (Just bytes)` says that these bytes were added, or
+//! after an error, counted as a fault, a prefix. A hook `try_..` stores its error in `slot`
+//! (`error_slot`).
 
 ghost use Rattle.std.specs.Prelude.{◌≡◌, [], Ok, None, Some, IsSome, IsTrue, IsUtf8, IfErr, IfOk, MatchResult, OnErr, string_bytes};
 ghost use Rattle.std.specs.IoError.{error_kind};
@@ -23,12 +25,11 @@ use jzon_base::util::print_dec::number_text;
 use std::alloc::{AllocError, Global};
 use std::io::{self, ErrorKind, Write};
 
-/// How many bytes a text that is written into memory first has room for.
+/// The first capacity of a text in memory, in bytes: a small text needs one allocation.
 const FIRST_ROOM: usize = 1024;
 
-/// Writes text in a layout, to memory or a writer. `in_memory` and `to_writer` make one; `consume`
-/// returns the text that is in memory. `dent` is the number of open indents, and `faults`
-/// the number of errors that were counted.
+/// Writes text in a layout, to memory (`in_memory`; `consume` returns it) or a writer
+/// (`to_writer`). `dent` is the number of open indents, and `faults` that of errors.
 #[derive(Debug, Drop)]
 pub struct TextGenerator<P: Destination, L: Layout> {
     pub(crate) destination: P,
@@ -38,7 +39,7 @@ pub struct TextGenerator<P: Destination, L: Layout> {
 }
 
 impl<P: Destination, L: Layout> TextGenerator<P, L> {
-    /// A generator of this layout that adds to what was written to the destination.
+    /// A generator of this layout that adds to the destination.
     #[inline(always)]
     pub(crate) fn over(destination: P, layout: L) -> TextGenerator<P, L>
         ensures { ⟦<TextGenerator<P, L> as Generator>⟧.meaning result
@@ -52,7 +53,7 @@ impl<P: Destination, L: Layout> TextGenerator<P, L> {
         }
     }
 
-    /// Returns the result of a call, and counts a fault if it failed.
+    /// Returns `step`, and counts a fault if it is an error.
     #[inline(always)]
     fn count_fault(&mut self, step: SlotResult<()>) -> SlotResult<()>
         ensures result { result ≡ step }
@@ -65,8 +66,8 @@ impl<P: Destination, L: Layout> TextGenerator<P, L> {
         step
     }
 
-    /// Writes a number whose exponent isn't 0; its error is stored in the slot. A function of its
-    /// own, so that `try_write_number` saves no registers for an integer.
+    /// Writes a number whose exponent isn't 0. Apart, so that `try_write_number` saves no registers
+    /// for an integer.
     #[inline(never)]
     fn write_decimal(&mut self, num: &Number, slot: &mut ErrorSlot) -> SlotResult<()>
         ensures bytes { Emits (Just (written_text num.now))
@@ -80,7 +81,8 @@ impl<P: Destination, L: Layout> TextGenerator<P, L> {
         self.write_number_text(num, slot)
     }
 
-    /// Writes a number that the destination didn't put. It is apart as `write_decimal` is.
+    /// Writes a number that `put` didn't add, such as 0. Apart, so that `try_write_number` saves no
+    /// registers for other integers.
     #[inline(never)]
     fn write_number_text(&mut self, num: &Number, slot: &mut ErrorSlot) -> SlotResult<()>
         ensures bytes { Emits (Just (written_text num.now))
@@ -110,8 +112,7 @@ impl<P: Destination, L: Layout> Generator for TextGenerator<P, L> {
 
     fn write_min(&mut self, slice: &[u8], min: u8) -> io::Result<()> {
         let mut slot = None;
-        // `slice` is a colon and a space, and `min` the colon alone. A layout with lines has the
-        // space.
+        // `slice` is a colon and a space, for layouts with lines, and `min` a colon.
         let step = if self.layout.spaces().is_some() {
             self.try_write(slice, &mut slot)
         } else {
@@ -154,9 +155,7 @@ impl<P: Destination, L: Layout> Generator for TextGenerator<P, L> {
         take_result(step, slot)
     }
 
-    /// The layout's `order`. If it always returns `None` (`keeps_order`), nothing of the generator
-    /// changes. An error of the layout is counted as a fault, and returned as one of the kind
-    /// `OutOfMemory`.
+    /// The layout's `order`. An error is counted, and is of the kind `OutOfMemory`.
     #[inline(always)]
     fn order(&mut self, object: &Object) -> io::Result<Option<Vec<usize>>>
         ensures answer { MatchResult result
@@ -201,6 +200,7 @@ impl<P: Destination, L: Layout> Generator for TextGenerator<P, L> {
     }
 
     fn try_write_key(&mut self, key: &str, slot: &mut ErrorSlot) -> SlotResult<()> {
+        // Whether a space follows the colon.
         let wide = self.layout.spaces().is_some();
         if self.destination.put(QuotedKey(key.as_bytes(), wide)) {
             return Ok(());
@@ -238,10 +238,10 @@ impl<P: Destination, L: Layout> Generator for TextGenerator<P, L> {
     ghost style_law = { λ g. L.style_law g.layout };
 }
 
-/// Writes compact text into memory (`Compact`).
+/// Writes compact text into memory.
 pub type DumpGenerator = TextGenerator<Memory, Compact>;
 
-/// Writes text with a line for each element and entry into memory (`Pretty`).
+/// Writes text in the layout `Pretty` into memory.
 pub type PrettyGenerator = TextGenerator<Memory, Pretty>;
 
 impl DumpGenerator {
@@ -255,7 +255,8 @@ impl DumpGenerator {
 }
 
 impl PrettyGenerator {
-    /// As `DumpGenerator::new`.
+    /// A generator that has written nothing, with `spaces` spaces for each open indent. It
+    /// allocates nothing.
     pub fn new(alloc: Global, spaces: u16) -> PrettyGenerator
         ensures { ⟦<PrettyGenerator as Generator>⟧.meaning result
             ≡ fresh (Some []) (pretty_style spaces) None }
@@ -276,8 +277,7 @@ impl<L: Layout> TextGenerator<Memory, L> {
 }
 
 impl<L: Layout + Drop> TextGenerator<Memory, L> {
-    /// A generator of this layout that has written nothing, with room for `FIRST_ROOM` bytes, so
-    /// that a small text needs one allocation.
+    /// A generator that has written nothing, with a capacity of `FIRST_ROOM` (1,024) bytes.
     pub(crate) fn with_room(
         alloc: Global,
         layout: L,
@@ -289,15 +289,15 @@ impl<L: Layout + Drop> TextGenerator<Memory, L> {
         Ok(TextGenerator::over(Memory { bytes }, layout))
     }
 
-    /// The bytes that were written, as a string. It allocates nothing, and fails with
-    /// `FailedUtf8Parsing` exactly if they are not UTF-8.
+    /// The bytes written, as a string. It allocates nothing, and fails with `FailedUtf8Parsing`
+    /// exactly if they aren't UTF-8.
     pub fn consume(self) -> Result<String>
         ensures { IsConsumed (⟦<TextGenerator<Memory, L> as Generator>⟧.meaning self).out result }
     {
         String::from_utf8(self.destination.bytes).map_err(|_| Error::FailedUtf8Parsing)
     }
 
-    /// The bytes that were written, which are UTF-8, as a string. They aren't tested.
+    /// The bytes written, as a string, without a test that they are UTF-8.
     pub(crate) fn into_text(self) -> String
         requires { IsUtf8 self.destination.bytes.items }
         ensures { string_bytes result ≡ self.destination.bytes.items }
@@ -306,17 +306,15 @@ impl<L: Layout + Drop> TextGenerator<Memory, L> {
     }
 }
 
-/// Writes compact text to a writer (`Compact`). Nothing is buffered: each bracket, string and
-/// number is a call of `Write::write`, or several.
+/// Writes compact text to a writer. Nothing is buffered: each bracket, string and number is a call
+/// of `Write::write`, or several.
 pub type WriterGenerator<'a, W> = TextGenerator<&'a mut W, Compact>;
 
-/// Writes text with a line for each element and entry to a writer (`Pretty`). Nothing is buffered,
-/// as with `WriterGenerator`.
+/// Writes text in the layout `Pretty` to a writer, unbuffered like `WriterGenerator`.
 pub type PrettyWriterGenerator<'a, W> = TextGenerator<&'a mut W, Pretty>;
 
 impl<'a, W: Write> WriterGenerator<'a, W> {
-    /// A generator that appends to what was written to the writer. No indent is open and no fault
-    /// is counted (`fresh`), and it writes through this reference (`ghost_name`).
+    /// A generator that appends to the writer.
     pub fn new(writer: &'a mut W) -> WriterGenerator<'a, W>
         ensures { ⟦<WriterGenerator<'a, W> as Generator>⟧.meaning result
             ≡ fresh (W.contents writer.old) compact_style (Some writer.entry.ghost_name) }
@@ -326,7 +324,7 @@ impl<'a, W: Write> WriterGenerator<'a, W> {
 }
 
 impl<'a, W: Write> PrettyWriterGenerator<'a, W> {
-    /// As `WriterGenerator::new`.
+    /// A generator that appends to the writer, with `spaces` spaces for each open indent.
     pub fn new(writer: &'a mut W, spaces: u16) -> PrettyWriterGenerator<'a, W>
         ensures { ⟦<PrettyWriterGenerator<'a, W> as Generator>⟧.meaning result
             ≡ fresh (W.contents writer.old) (pretty_style spaces) (Some writer.entry.ghost_name) }
@@ -336,7 +334,7 @@ impl<'a, W: Write> PrettyWriterGenerator<'a, W> {
 }
 
 impl<'a, W: Write, L: Layout> TextGenerator<&'a mut W, L> {
-    /// A generator of this layout that appends to what was written to the writer.
+    /// A generator of this layout that appends to the writer.
     pub fn to_writer(writer: &'a mut W, layout: L) -> TextGenerator<&'a mut W, L>
         ensures { ⟦<TextGenerator<&'a mut W, L> as Generator>⟧.meaning result
             ≡ fresh (W.contents writer.old) (L.style layout) (Some writer.entry.ghost_name) }

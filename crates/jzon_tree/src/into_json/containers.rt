@@ -1,5 +1,5 @@
-//! Options, lists and maps as values. The text of a map's key is the key of an entry. `is_free` is
-//! `⊥` where no conversion is promised to succeed: an array or an object needs memory.
+//! Options, lists and maps as values. An array or an object needs memory, so `is_free` is `⊥`: no
+//! conversion to one is promised to succeed.
 
 ghost use Rattle.std.specs.Prelude.{⊤, string_bytes, MatchOption};
 ghost use Rattle.jzon_tree.specs.IntoJson.{OptionMeans, ListMeans, CloneListMeans, MapMeans, AnyOrderMeans};
@@ -41,7 +41,7 @@ impl<T: IntoJson> IntoJson for Vec<T> {
     }
 }
 
-/// The array of what clones of the elements mean, in order.
+/// The array of what clones of the elements mean, in order: `into_json` consumes an element.
 impl<T: IntoJson + Clone> IntoJson for &[T] {
     ghost means = { λ list v. CloneListMeans T.is_clone T.means list.now v };
 
@@ -56,7 +56,7 @@ impl<T: IntoJson + Clone> IntoJson for &[T] {
     }
 }
 
-/// The object of its entries, in the map's order.
+/// The object of its entries, ascending by key.
 impl<T: IntoJson> IntoJson for BTreeMap<String, T> {
     ghost means = { λ pairs v. MapMeans string_bytes T.means pairs.entries v };
 
@@ -67,6 +67,7 @@ impl<T: IntoJson> IntoJson for BTreeMap<String, T> {
     }
 }
 
+/// The object of its entries, ascending by key.
 impl<T: IntoJson> IntoJson for BTreeMap<&str, T> {
     ghost means = { λ pairs v. MapMeans (λ key. key.now) T.means pairs.entries v };
 
@@ -88,6 +89,7 @@ impl<T: IntoJson> IntoJson for HashMap<String, T> {
     }
 }
 
+/// The object of its entries, in any order.
 impl<T: IntoJson> IntoJson for HashMap<&str, T> {
     ghost means = { λ pairs v. AnyOrderMeans (λ key. key.now) T.means pairs.entries v };
 

@@ -1,5 +1,8 @@
-//! The bodies of `get_mut`, `at_mut` and `at_index_mut`, as calls of a trait whose nodes are of
-//! another type than the tree.
+//! The bodies of `get_mut`, `at_mut` and `at_index_mut`, in a trait whose nodes are of another type
+//! than the tree, which the checker needs to prove `writes_back`.
+//!
+//! In clauses `with_default key null` are the entries once the key is there, `with_place null` the
+//! elements once there is one for the index, and `place_in` is the position of that one.
 
 ghost use Rattle.std.specs.Prelude.{◌≡◌, ◌≤◌, ◌<◌, List, ℕ, [], length, slice_get, slice_set, IfOk, IfSome, OnOk, OnErr, IsOkUnless, IsSome, MatchOption, Option, None, Some};
 ghost use Rattle.std.specs.Borrow.{sem, Lends, LendsIf, LendsIfOk, LendsSoOk};
@@ -30,24 +33,24 @@ pub trait Tree {
     // The null node.
     ghost null: { Self.Node };
 
-    // The entries of an object, none of another value; and the object of some entries.
+    // The entries of an object, none of another value; and the object of given entries.
     ghost pairs: { Self → List (List ℕ × Self.Node) };
 
     ghost object: { List (List ℕ × Self.Node) → Self };
 
     ghost pairs_of_object: { (ps : List (List ℕ × Self.Node)) → pairs (object ps) ≡ ps };
 
-    // The elements of an array; and the array of some elements.
+    // The elements of an array; and the array of given elements.
     ghost items: { Self → Option (List Self.Node) };
 
     ghost array: { Vec Self.Node → Self };
 
     ghost items_of_array: { (vs : Vec Self.Node) → items (array vs) ≡ Some vs.items };
 
-    // What the value means.
+    // What the value means, whatever its capacity.
     ghost meaning: { Self → Value };
 
-    /// The entries of an object, to be written. `None` for any other value, whose `pairs` are `[]`.
+    /// The entries of an object. `None` for any other value, whose `pairs` are `[]`.
     fn pairs_mut(&mut self) -> Option<&mut Pairs<Self::Node>>
         ensures* writes_back { sem 𝓛 (LendsIf Self.row
             (pairs_row Self.Node.row) self.entry result object self.old) }
@@ -64,21 +67,22 @@ pub trait Tree {
         ensures present { OnErr result (find key.now (pairs self.old) ≡ None) }
         ensures memory { IsOkUnless result Error.OutOfMemory };
 
-    /// Makes the value an array that has an element for the index (`with_place`).
+    /// Makes the value an array that has an element for the index. Past the end one null is appended;
+    /// any other value becomes `[null]` for index 0, else `[null,null]`.
     fn make_place(&mut self, alloc: Global, index: usize) -> Result<()>
         ensures ok { OnOk result (items self.new ≡ Some (with_place null (items self.old) index)) }
         ensures err { OnErr result (meaning self.new ≡ meaning self.old) }
         ensures present { OnErr result (IfSome (items self.old) (λ xs. length xs ≤ index)) }
         ensures memory { IsOkUnless result Error.OutOfMemory };
 
-    /// The elements of a value that is an array, to be written.
+    /// The elements of the value, which must be an array.
     fn array_items(&mut self) -> &mut Vec<Self::Node>
         requires { IsSome (items self.old) }
         ensures* writes_back { sem 𝓛 (Lends Self.row
             (vec_row Self.Node.row) self.entry result array) }
         ensures value { Some result.now.items ≡ items self.old };
 
-    /// The node of an object's key.
+    /// The node of an object's key, for `get_mut`. `None` if the key is missing.
     final fn get_in(&mut self, key: &str) -> Option<&mut Self::Node>
         ensures* writes_back { sem 𝓛 (LendsIf Self.row Self.Node.row self.entry result
             (λ w. object (put key.now w (pairs self.old))) self.old) }
@@ -88,7 +92,7 @@ pub trait Tree {
         pairs.get_mut(key)
     }
 
-    /// The node of an object's key, which is added if it is missing.
+    /// The node of an object's key, for `at_mut`. A missing key is added with null.
     final fn at_in(&mut self, alloc: Global, key: &str) -> Result<&mut Self::Node>
         ensures* writes_back { sem 𝓛 (LendsIfOk Self.row Self.Node.row self.entry result
             (λ w. object (put key.now w (pairs self.old))) self.old) }
@@ -105,7 +109,8 @@ pub trait Tree {
         }
     }
 
-    /// The element of an array for an index, which is added if it is missing.
+    /// The element at an index, for `at_index_mut`; if there was none, the last null that `make_place`
+    /// added.
     #[tactic(auto, using(crate::proofs::Values::LentPositions::place_is))]
     final fn at_index_in(&mut self, alloc: Global, index: usize) -> Result<&mut Self::Node>
         ensures* writes_back { sem 𝓛 (LendsSoOk Self.row Self.Node.row self.entry result
@@ -119,13 +124,11 @@ pub trait Tree {
     {
         self.make_place(alloc, index)?;
         let items = self.array_items();
-        // The index is in range now, or the element for it is the last one.
         let place = index.min(items.len() - 1);
         Ok(&mut items[place])
     }
 }
 
-/// The nodes are the values of entries, and the elements.
 impl Tree for JsonValue {
     type Node = JsonValue;
 
@@ -152,12 +155,12 @@ impl Tree for JsonValue {
 
     fn make_key(&mut self, alloc: Global, key: &str) -> Result<usize> {
         if let JsonValue::Object(object) = self {
-            // `place` puts a missing key last, with null, and returns the key's position.
+            // `place` puts a missing key last and returns the key's position.
             return Ok(object.pairs.place(alloc, key, JsonValue::Null)?);
         }
         let mut object = Object::new(alloc);
         object.insert(alloc, key, JsonValue::Null)?;
-        // Nothing can fail any more. The key is the first one, at position 0.
+        // The key is at position 0.
         *self = JsonValue::Object(object);
         Ok(0)
     }
@@ -170,7 +173,7 @@ impl Tree for JsonValue {
             }
             return Ok(());
         }
-        // Room for up to two nulls, before the value changes.
+        // What can fail comes first.
         let mut items = Vec::with_capacity(alloc, 2)?;
         items.push_reserved(JsonValue::Null);
         if index != 0 {

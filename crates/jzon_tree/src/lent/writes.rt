@@ -1,6 +1,5 @@
-//! Writes into a value, by calls whose contracts say what the value is afterwards; a caller's proof
-//! doesn't learn this of a write through a reference. A function `.._in` does the same for any type
-//! of the trait `Tree`, for the reason given in `lent`.
+//! Writes into a value, for callers whose proof needs what the value is afterwards. Each has its body
+//! in a function `.._in` over the trait `Tree`, as the proof needs nodes of another type.
 #![tactic(auto, using(crate::proofs::Values::WriteViews::written))]
 
 ghost use Rattle.std.specs.Prelude.{◌≡◌, ◌≤◌, length, slice_set, IfSome, OnOk, OnErr, IsOkUnless, MatchOption, is_some, None, Some, true, false};
@@ -15,8 +14,8 @@ use crate::value::JsonValue;
 use jzon_base::error::{Error, Result};
 use std::alloc::Global;
 
-/// Writes the value of an object's key, as through `get_mut`, and returns whether the key is
-/// present. If it isn't, nothing changes, and `item` is dropped.
+/// Writes `item` as the value of an object's key, and returns whether the key is present. If it
+/// isn't, nothing changes, and `item` is dropped.
 pub fn write_present(value: &mut JsonValue, key: &str, item: JsonValue) -> bool
     ensures found { result ≡ is_some (find key.now (entries (view value.old))) }
     ensures written { result ≡ true → view value.new ≡
@@ -26,8 +25,9 @@ pub fn write_present(value: &mut JsonValue, key: &str, item: JsonValue) -> bool
     write_present_in(value, key, item)
 }
 
-/// Writes the value of an object's key, as through `at_mut`. Fails with `OutOfMemory` only, and
-/// then nothing has changed; a key that is present needs no allocation.
+/// Writes `item` as the value of an object's key. A value that isn't an object first becomes an empty
+/// one, and a missing key is put last. Fails with `OutOfMemory` only, and then nothing has changed; a
+/// present key needs no allocation.
 pub fn write_at(value: &mut JsonValue, alloc: Global, key: &str, item: JsonValue) -> Result<()>
     ensures ok { OnOk result (view value.new ≡
         object (pairs_of (put key.now (view item) (entries (view value.old))))) }
@@ -38,9 +38,9 @@ pub fn write_at(value: &mut JsonValue, alloc: Global, key: &str, item: JsonValue
     write_at_in(value, alloc, key, item)
 }
 
-/// Writes the element of an array at an index, as through `at_index_mut`; past the end, `item` is
-/// appended. Fails with `OutOfMemory` only, and then the value is equal to the one before; an index
-/// that is in the range of an array needs no allocation.
+/// Writes `item` as the element of an array at an index; past the end, it is appended. A value that
+/// isn't an array becomes `[item]` for index 0, else `[null,item]`. Fails with `OutOfMemory` only,
+/// and then the value means what it meant; an index in range needs no allocation.
 pub fn write_at_index(
     value: &mut JsonValue,
     alloc: Global,
@@ -58,7 +58,7 @@ pub fn write_at_index(
     write_at_index_in(value, alloc, index, item)
 }
 
-/// `write_present` for any tree.
+/// `write_present` for any `Tree`.
 fn write_present_in<T: Tree>(tree: &mut T, key: &str, value: T::Node) -> bool
 where
     T::Node: Drop,
@@ -75,7 +75,7 @@ where
     }
 }
 
-/// `write_at` for any tree.
+/// `write_at` for any `Tree`.
 fn write_at_in<T: Tree>(tree: &mut T, alloc: Global, key: &str, value: T::Node) -> Result<()>
 where
     T::Node: Drop,
@@ -88,7 +88,7 @@ where
     Ok(())
 }
 
-/// `write_at_index` for any tree.
+/// `write_at_index` for any `Tree`.
 fn write_at_index_in<T: Tree>(
     tree: &mut T,
     alloc: Global,

@@ -1,4 +1,8 @@
 //! The entries of an object by their positions, which count from 0.
+//!
+//! The clause `writes_back` says that a write of `w` through the reference leaves the object with
+//! `w` at this position, and that an object without the position stays as it is. `entries_of` are
+//! the keys and values in order.
 
 ghost use Rattle.std.specs.Prelude.{◌≡◌, remove, slice_get, option_map};
 ghost use Rattle.std.specs.List.{position};
@@ -27,8 +31,7 @@ impl Object {
         }
     }
 
-    /// A mutable reference to the value of the entry at a position. `None` past the end. A write
-    /// through it changes nothing else.
+    /// A mutable reference to the value of the entry at a position. `None` past the end.
     ///
     /// ```rust
     /// if let Some(value) = object.get_index_mut(index) {
@@ -48,7 +51,7 @@ impl Object {
         }
     }
 
-    /// The position of the key. `None` if the key is missing.
+    /// The position of the key's entry. `None` if the key is missing.
     pub fn get_index_of(&self, key: &str) -> Option<usize>
         ensures { result ≡ position (λ k. bytes_eq k key.now) (keys_of (entries_of self.now)) }
     {
@@ -56,9 +59,7 @@ impl Object {
     }
 
     /// Removes the entry at a position, and returns its key and its value. `None` past the end. The
-    /// other entries keep their order. It allocates nothing.
-    ///
-    /// The entries after it move up, as in `remove`.
+    /// entries after it move up, in their order. It allocates nothing.
     pub fn shift_remove_index(&mut self, index: usize) -> Option<(Key, JsonValue)>
         ensures entry { result ≡ slice_get (entries_of self.old) index }
         ensures after { entries_of self.new ≡ remove (entries_of self.old) index }

@@ -16,7 +16,8 @@ use jzon_base::error::{Error, Result};
 use std::alloc::Global;
 
 impl Object {
-    /// The compact text of the object. Fails as `JsonValue::dump`.
+    /// The compact text of the object. Fails with `OutOfMemory`, and with
+    /// `ExceededDepthLimit` if non-empty containers nest 2^64 deep or deeper.
     pub fn dump(&self, alloc: Global) -> Result<String>
         ensures text { IfOk result (λ text. string_bytes text ≡ compact (view_object self.now)) }
         ensures writing { IfOk result (λ text. Writes compact_style 0 (view_object self.now)
@@ -30,7 +31,8 @@ impl Object {
         self.lay_out(alloc, Compact)
     }
 
-    /// The text of the object as `JsonValue::pretty` returns it. Fails as `dump`.
+    /// The text of the object with a line for each entry and element, indented by `spaces` spaces
+    /// for each container around it. Fails as `dump`.
     pub fn pretty(&self, alloc: Global, spaces: u16) -> Result<String>
         ensures text { IfOk result (λ text. string_bytes text
             ≡ pretty (view_object self.now) spaces 0) }
@@ -45,7 +47,7 @@ impl Object {
         self.lay_out(alloc, Pretty(spaces))
     }
 
-    /// The text of the object in a layout. Fails as `JsonValue::lay_out`.
+    /// The text of the object in a layout. Fails as `dump`.
     fn lay_out<L: Layout + Drop>(&self, alloc: Global, layout: L) -> Result<String>
         ensures writing { IfOk result (λ text. Writes (L.style layout) 0 (view_object self.now)
             (string_bytes text)) }
@@ -60,7 +62,7 @@ impl Object {
         {
             return Ok(generator.into_text());
         }
-        // As in `JsonValue::lay_out`.
+        // `&mut None` takes the error, which isn't needed: the object's depth says which it is.
         Err(inspect_object(self).printing_error())
     }
 }

@@ -1,6 +1,6 @@
-//! Goes over all parts of a value. The type of each part promises something (a number in range, a
-//! string of UTF-8, distinct keys), and the proof learns it where the part is read; after the walk
-//! it is known of all parts.
+//! Goes over all parts of a value. Each part's type promises something (a number in range, UTF-8,
+//! distinct keys), and the proof learns it where the part is read. In clauses `IsInspected v n`
+//! says that this holds of all parts of `v`, which nests `n` deep.
 
 ghost use Rattle.std.specs.Prelude.{◌≡◌, ◌<◌, ◌≤◌, ◌^◌, ◌∷◌, ◌++◌, [], List};
 ghost use Rattle.jzon_tree.specs.Private.Inspected.{IsInspected};
@@ -13,6 +13,7 @@ use crate::value::JsonValue;
 use jzon_base::error::Error;
 use jzon_base::number::Number;
 
+/// What a walk over a value found.
 #[derive(Clone, Copy)]
 pub(crate) struct Inspection {
     /// How many non-empty containers nest, saturating at `u128::MAX`.
@@ -20,11 +21,11 @@ pub(crate) struct Inspection {
 }
 
 impl Inspection {
-    /// No nesting, as in an empty container.
+    /// No nesting, as in a primitive or an empty container.
     const PLAIN: Inspection = Inspection { nest: 0 };
 
-    /// What is found in a container with one more element or entry. The clause speaks of an array;
-    /// an object is inspected as the array of its values.
+    /// What is found in a container so far (`self`), with one more element or entry (`item`). An
+    /// object counts as the array of its values.
     fn with(self, item: Inspection) -> Inspection
         ensures { (vs : List Value) (v : Value)
             → IsInspected (array (values_of vs)) self.nest
@@ -36,8 +37,8 @@ impl Inspection {
         }
     }
 
-    /// Why printing the value into memory failed: it is too deep, or else an allocation failed. It
-    /// is too deep from 2^64 on, because a generator counts open containers in a `u64`.
+    /// Why printing the value into memory failed: it is at least 2^64 deep, more than a generator's
+    /// `u64` of open indents counts, or else an allocation failed.
     pub(crate) fn printing_error(self) -> Error
         ensures memory { (v : Value) → IsInspected v self.nest → nest v < 2 ^ 64
             → result ≡ Error.OutOfMemory }
@@ -52,7 +53,7 @@ impl Inspection {
     }
 }
 
-/// How deep the value is, by a walk over all its parts.
+/// How deep non-empty containers nest in the value.
 #[cycle(inspect)]
 #[tactic(auto, using(crate::proofs::Values::Views::views))]
 pub(crate) fn inspect(value: &JsonValue) -> Inspection
@@ -60,8 +61,7 @@ pub(crate) fn inspect(value: &JsonValue) -> Inspection
 {
     match value {
         JsonValue::Null | JsonValue::Boolean(_) => Inspection::PLAIN,
-        // The uses of `_text` do nothing at run time. The proof learns from them what the types
-        // promise; `see_number` is such a use of a number.
+        // `_text` and `see_number` are for the proof.
         JsonValue::Short(text) => {
             let _text = text.as_str();
             Inspection::PLAIN
@@ -79,14 +79,13 @@ pub(crate) fn inspect(value: &JsonValue) -> Inspection
     }
 }
 
-/// As `inspect`, of an object.
+/// How deep the object is: one more than its deepest value, or 0 if empty.
 #[cycle(inspect)]
 pub(crate) fn inspect_object(object: &Object) -> Inspection
     ensures { IsInspected (view_object object.now) result.nest }
 {
     let mut found = Inspection::PLAIN;
-    // By position: the invariant speaks of the first `index` entries. That their keys are distinct
-    // is promised by `len`.
+    // By position, for the proof's loop invariant; `len` promises distinct keys.
     for index in 0..object.len() {
         let (_key, value) = object.pairs.get_at(index);
         found = found.with(inspect(value));
@@ -94,7 +93,7 @@ pub(crate) fn inspect_object(object: &Object) -> Inspection
     found
 }
 
-/// As `inspect`, of an array.
+/// How deep the array is: one more than its deepest element, or 0 if empty.
 #[cycle(inspect)]
 fn inspect_items(items: &[JsonValue]) -> Inspection
     ensures { IsInspected (array (view_values items.now)) result.nest }
@@ -106,8 +105,7 @@ fn inspect_items(items: &[JsonValue]) -> Inspection
     found
 }
 
-/// Does nothing at run time. The proof learns from this use of the number that it is within range,
-/// as its type promises.
+/// Only for the proof, which learns that the number is in range.
 pub(crate) fn see_number(number: &Number)
     ensures { InRange number.now }
 {

@@ -1,6 +1,6 @@
-//! The texts of values (docs/RULES.md, "Layouts"). An indent is open for each non-empty container
-//! that is being written. Calls that print ensure `IsValue` too, because the laws on reading back
-//! need it.
+//! The texts of values (docs/RULES.md, "Layouts"). In clauses `view` is the value without its
+//! memory; `Writes style 0` holds of its texts in the style, where 0 indents are open before. All
+//! ensure `IsValue`, for the laws on reading back.
 
 ghost use Rattle.std.specs.Prelude.{◌≡◌, ◌<◌, ◌≤◌, ◌^◌, OnOk, OnErr, IfOk, IsOkUnless, string_bytes};
 ghost use Rattle.std.specs.Io.KnownBytes.{Appends};
@@ -47,7 +47,7 @@ impl JsonValue {
 
     /// The text of the value with a line for each element and entry: a newline, and `spaces` spaces
     /// for each container around it, before each element, each key and each closing bracket of a
-    /// container that is not empty. Fails as `dump`.
+    /// container that is not empty; a space follows each colon. Fails as `dump`.
     pub fn pretty(&self, alloc: Global, spaces: u16) -> Result<String>
         ensures text { IfOk result (λ text. string_bytes text ≡ pretty (view self.now) spaces 0) }
         ensures writing { IfOk result (λ text. Writes (pretty_style spaces) 0 (view self.now)
@@ -59,8 +59,8 @@ impl JsonValue {
         self.lay_out(alloc, Pretty(spaces))
     }
 
-    /// The text of the value in a layout: `Compact`, `Pretty`, or one of the caller's. Fails as
-    /// `dump` does, and with `OutOfMemory` if the layout's `order` fails.
+    /// The text of the value in a layout, also the caller's. Fails as `dump`, and with `OutOfMemory`
+    /// if the layout's `order` fails.
     ///
     /// ```rust
     /// value.lay_out(alloc, Sorted { alloc })   // `Sorted` is the example of `codegen::Layout`
@@ -77,19 +77,17 @@ impl JsonValue {
         {
             return Ok(generator.into_text());
         }
-        // `&mut None` is the slot for the error of a hook, which isn't needed: only the depth or an
-        // allocation can have failed (also in the layout's `order`), and the depth of the value
-        // says which.
+        // `&mut None` takes the error, which isn't needed: the value's depth says if it was that or an
+        // allocation.
         Err(inspect(self).printing_error())
     }
 
-    /// Writes the compact text of the value, with no whitespace outside of its strings. An error is
-    /// the writer's, or reports that 2^64 indents would be open; a prefix of the text is then
-    /// written. Only the writer may allocate.
+    /// Writes the compact text of the value. An error is the writer's, or reports that 2^64 indents
+    /// would be open; a prefix of the text is then written. Only the writer may allocate.
     ///
     /// The text is collected in 1,024 bytes on the stack, so a file needs no `BufWriter` for one
-    /// value. A longer string goes to the writer at once. No newline is written at the end, and
-    /// `flush` isn't called.
+    /// value; a longer string goes to the writer at once. No newline is added, and `flush` isn't
+    /// called.
     pub fn write<W: Write>(&self, writer: &mut W) -> io::Result<()>
         ensures ok { OnOk result (Appends (W.contents writer.old) (W.contents writer.new)
             (compact (view self.now))) }
@@ -121,10 +119,10 @@ impl JsonValue {
         write_in::<W, Pretty, Brand>(self, writer, Pretty(spaces))
     }
 
-    /// Writes the text that `lay_out` returns. An error is the writer's, or reports that the
-    /// layout's `order` failed or that 2^64 indents would be open; a prefix of the text is then
-    /// written: all that is before, if `order` failed. Only the layout and the writer may allocate.
-    /// It is collected as `write` does.
+    /// Writes the text that `lay_out` returns, collected as by `write`. An error is the writer's,
+    /// or reports that `order` failed or that 2^64 indents would be open; a prefix of the text is
+    /// then written: all that is before, if `order` failed. Only the layout and the writer may
+    /// allocate.
     pub fn write_layout<W: Write, L: Layout + Drop>(
         &self,
         writer: &mut W,
@@ -138,8 +136,8 @@ impl JsonValue {
     }
 }
 
-/// Writes the text of the value in the layout through a buffer on the stack. `S.start`, which only
-/// the proof has, is how many bytes the writer has.
+/// Writes the text of the value through a buffer on the stack. `S.start`, for the proof, is how
+/// many bytes the writer has before.
 fn write_in<W: Write, L: Layout + Drop, S: Start>(
     json: &JsonValue,
     writer: &mut W,
@@ -154,13 +152,13 @@ fn write_in<W: Write, L: Layout + Drop, S: Start>(
     let answer = write_outlet(json, &mut buffered, layout);
     let answer = buffered.finish(answer);
     let inner = buffered.inner;
-    // No effect at run time. From this use the proof learns what the writer holds.
+    // The proof learns here what the writer holds.
     let _ = &*inner;
     answer
 }
 
-/// Writes the text of the value in the layout to an outlet: the `Buffered` of `write_in`. It is
-/// generic for the reason that `Outlet` gives.
+/// Writes the text of the value to `outlet`, a `Buffered`. Apart and over `Outlet`, which hides the
+/// ghost field of `Buffered` from the borrow checker.
 #[inline(always)]
 fn write_outlet<W: Outlet, L: Layout + Drop>(
     json: &JsonValue,
@@ -174,7 +172,7 @@ fn write_outlet<W: Outlet, L: Layout + Drop>(
     let mut generator = TextGenerator::over(Through { outlet }, layout);
     let answer = write_json(&mut generator, json);
     let Through { outlet } = generator.destination;
-    // No effect at run time, as in `write_in`.
+    // The proof learns here what the outlet holds.
     let _ = &*outlet;
     answer
 }

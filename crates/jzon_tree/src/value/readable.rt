@@ -1,5 +1,5 @@
-//! Whether a reading reads the texts of a value as equal values. Here too, the proof learns from a
-//! use of each part what its type promises (`inspect`).
+//! Whether a parser reads a value's texts as equal values. `_text` and `see_number` are for the
+//! proof, which learns from them what the types promise.
 
 ghost use Rattle.std.specs.Prelude.{◌<◌, ◌≤◌, ◌↔◌, IsTrue};
 ghost use Rattle.jzon_tree.specs.Lawful.{IsValue, HasNoNan};
@@ -10,8 +10,8 @@ use crate::object::Object;
 use crate::value::JsonValue;
 use crate::value::inspect::see_number;
 
-/// Whether no number in the value is NaN, and at most `depth` non-empty containers nest in it. Ends
-/// at the first NaN or container that is too deep. Allocates nothing.
+/// Whether no number in the value is NaN, and at most `depth` non-empty containers nest in it, a
+/// parser's limit. Allocates nothing.
 #[cycle(is_readable)]
 #[tactic(auto, using(crate::proofs::Values::Views::views))]
 pub fn is_readable(value: &JsonValue, depth: u16) -> bool
@@ -38,7 +38,8 @@ pub fn is_readable(value: &JsonValue, depth: u16) -> bool
     }
 }
 
-/// `is_readable` of a value in a container, where `depth` counts that container too.
+/// Whether a value in a container is readable, where the limit `depth` counts that container too:
+/// at 0 none is.
 #[cycle(is_readable)]
 #[inline(always)]
 fn is_readable_inside(value: &JsonValue, depth: u16) -> bool
@@ -49,7 +50,7 @@ fn is_readable_inside(value: &JsonValue, depth: u16) -> bool
     0 < depth && is_readable(value, depth - 1)
 }
 
-/// As `is_readable`, of an object.
+/// `is_readable` of an object: all its values are, one container deeper.
 #[cycle(is_readable)]
 fn is_object_readable(object: &Object, depth: u16) -> bool
     ensures value { IsTrue result → IsValue (view_object object.now) }
@@ -65,7 +66,7 @@ fn is_object_readable(object: &Object, depth: u16) -> bool
     true
 }
 
-/// As `is_readable`, of an array.
+/// `is_readable` of an array: all its elements are, one container deeper.
 #[cycle(is_readable)]
 fn are_items_readable(items: &[JsonValue], depth: u16) -> bool
     ensures value { IsTrue result → IsValue (array (view_values items.now)) }

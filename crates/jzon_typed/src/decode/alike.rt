@@ -31,8 +31,8 @@ pub trait ReadsAlike: FromJson + PartialEq {
     ghost taken_alike: { EqualIntegers → TakenAlike Self.FromJson.takes };
 }
 
-/// Of equal values `from_json` gives equal results, and if it takes one of them, it takes the other,
-/// if of no number in it digits may have been cut. It does nothing: the law is its contract.
+/// Of equal values `from_json` gives equal results, and takes both or neither, if of no number in
+/// them digits may have been cut. It does nothing: the law is its contract.
 pub fn law_of<T: ReadsAlike>()
     ensures alike { AlikeBy T.FromJson.gives T.PartialEq.eq }
     ensures taken { TakenAlike T.FromJson.takes }

@@ -22,8 +22,8 @@ use jzon_pointer::names::is_among;
 use std::alloc::Global;
 use std::result::Result;
 
-/// An object that is read by its keys. The pointer of an error leads from this object: if it is
-/// inside another one, `Error::below_key` puts its key before.
+/// An object that is read by its keys. The pointer of an error leads from it: if it is inside
+/// another one, `Error::below_key` puts its key before.
 #[derive(Clone, Copy)]
 pub struct Fields<'v> {
     /// What allocates the results and the errors.
@@ -70,7 +70,7 @@ impl<'v> Fields<'v> {
         }
     }
 
-    /// The value of the entry with this key, read as a type. A missing entry is an error.
+    /// The entry's value, read as a type. A missing entry is an error, also of an `Option`.
     pub fn read<T: FromJson>(&self, key: &str) -> Result<T, Error>
         ensures value { IfOk result (ReadsEntry self.now key.now T.gives) }
         ensures error { IfErr result (IsErrorIn (read_from self.now)) }
@@ -82,9 +82,8 @@ impl<'v> Fields<'v> {
         }
     }
 
-    /// The value of the entry with this key, read as a type. If the entry is missing, or its value
-    /// is null, it returns the default, even for a type that takes null: so a later layer of a
-    /// configuration can unset an entry (`merge::layer`).
+    /// The entry's value, read as a type, or the default if it is missing or null, even for a type
+    /// that takes null: so a later layer of a configuration can unset an entry (`merge::layer`).
     pub fn read_or<T: FromJson>(&self, key: &str, default: T) -> Result<T, Error>
         ensures value { IfOk result (λ x.
             (IsAbsent (find key.now (entries (read_from self.now))) × (x ≡ default))
@@ -100,8 +99,7 @@ impl<'v> Fields<'v> {
         }
     }
 
-    /// The value of the entry with this key, read as a type. If the entry is missing, or its value
-    /// is null, it returns `None`.
+    /// The entry's value, read as a type, or `None` if it is missing or null.
     pub fn optional<T: FromJson>(&self, key: &str) -> Result<Option<T>, Error>
         ensures none { IfOk result (λ o. o ≡ None
             → IsAbsent (find key.now (entries (read_from self.now)))) }
@@ -117,7 +115,8 @@ impl<'v> Fields<'v> {
         }
     }
 
-    /// The entry's string, which isn't copied: it borrows the value.
+    /// The entry's string, which isn't copied: it borrows the value. Anything else, or a missing
+    /// entry, is an error.
     pub fn str(&self, key: &str) -> Result<&'v str, Error>
         ensures value { IfOk result (ReadsEntry self.now key.now (λ w s. text_in w ≡ Some s.now)) }
         ensures error { IfErr result (IsErrorIn (read_from self.now)) }
@@ -132,7 +131,7 @@ impl<'v> Fields<'v> {
     }
 
     /// The entry's number with the point moved right by `point` digits: with 2, `19.9` is 1990. A
-    /// number with more digits after the point is an error.
+    /// number with more digits after the point, NaN, or what doesn't fit is an error.
     pub fn fixed_point(&self, key: &str, point: u16) -> Result<i64, Error>
         ensures value { IfOk result (ReadsEntry self.now key.now
             (λ w n. exact_fixed_point_in w point ≡ Some n)) }
@@ -163,7 +162,8 @@ impl<'v> Fields<'v> {
         self.below(key, value)
     }
 
-    /// The error of an entry that a caller's own test refuses. The words say what it expects.
+    /// The error of an entry that a caller's own test refuses, or that is missing. The words say
+    /// what it expects.
     pub fn expected(&self, key: &str, expected: &'static str) -> Error
         ensures { IsErrorIn (read_from self.now) result }
     {
@@ -173,8 +173,8 @@ impl<'v> Fields<'v> {
         }
     }
 
-    /// The error of `expected` without the value that is there, for a password or a token: of a string
-    /// or a number the message has its type alone.
+    /// The error of an entry that a caller's own test refuses, as a password: of a boolean, a
+    /// number or a string the message has the type alone.
     ///
     /// ```rust
     /// return Err(login.expected_hidden("pin", "another number"));
@@ -187,7 +187,7 @@ impl<'v> Fields<'v> {
         self.expected(key, expected).without_value()
     }
 
-    /// The entry's value.
+    /// The entry's value, if there is one.
     #[tactic(auto, using(crate::proofs::DecodeViews::reading))]
     fn entry(&self, key: &str) -> Option<&'v JsonValue>
         ensures { option_map (λ v. view v.now) result
@@ -196,7 +196,7 @@ impl<'v> Fields<'v> {
         self.object.get(key)
     }
 
-    /// The entry's value, unless it is null.
+    /// The entry's value, if there is one that isn't null.
     #[tactic(auto, using(crate::proofs::FieldSteps::absent))]
     fn present(&self, key: &str) -> Option<&'v JsonValue>
         ensures some { IfSome result (λ v. find key.now (entries (read_from self.now))
@@ -208,8 +208,8 @@ impl<'v> Fields<'v> {
         if value.is_null() { None } else { Some(value) }
     }
 
-    /// Reads `value`, which is that of the entry with this key, as a type, and puts the key before
-    /// the pointer of an error.
+    /// Reads `value`, which is the entry's, as a type, and puts the key before the pointer of an
+    /// error.
     fn below<T: FromJson>(&self, key: &str, value: &JsonValue) -> Result<T, Error>
         requires { find key.now (entries (read_from self.now)) ≡ Some (view value.now) }
         ensures value { IfOk result (T.gives (view value.now)) }
@@ -247,7 +247,7 @@ impl<'v> Fields<'v> {
         missing(self.alloc, key, expected)
     }
 
-    /// The error of the entry with this key, whose value isn't what is expected.
+    /// The error of an entry whose value isn't what is expected.
     fn wrong(&self, key: &str, value: &JsonValue, expected: Expected) -> Error
         requires entry { find key.now (entries (read_from self.now)) ≡ Some (view value.now) }
         requires refused { Refuses expected (view value.now) }
@@ -257,7 +257,7 @@ impl<'v> Fields<'v> {
     }
 }
 
-/// The first key that isn't among the names.
+/// The first key of the object that isn't among the names.
 fn unknown_key<'v>(object: &'v Object, names: &[&str]) -> Option<&'v str>
     ensures { option_copied result ≡ first (λ k. not (is_among (map (λ n. n.now) names.now) k))
         (keys_of (entries_of object.now)) }

@@ -1,4 +1,5 @@
-//! How the types of std are read.
+//! How the types of std are read. `u8_in` and the like give the integer that a number is, however
+//! it is written, if it fits. `usize` and `isize` have 64 bits.
 
 ghost use Rattle.std.specs.Prelude.{◌≡◌, ◌<◌, ◌^◌, ◌⊎◌, ℕ, None, Some, encode_utf8, string_bytes, true, false, FitsSigned, IfErr, IfOk, IfSome, IsOk, IsSome, MatchOption};
 ghost use Rattle.std.specs.Char.{IsScalar};
@@ -62,7 +63,8 @@ fn integer<T: Drop>(
     or_wrong(alloc, value, read, expected)
 }
 
-/// Whether the value is a number of which digits may have been cut.
+/// Whether the value is a number of which digits may have been cut where its text was read: its
+/// exponent isn't 0, and its mantissa is at least `u64::MAX / 10` (`may_be_cut`).
 fn is_cut(value: &JsonValue) -> bool
     ensures { result ≡ may_be_cut_in (view value.now) }
 {
@@ -252,7 +254,6 @@ impl<T: FromJson> FromJson for Option<T> {
     }
 }
 
-/// The elements of an array.
 impl<T: FromJson> FromJson for Vec<T> {
     ghost gives = { λ v xs. (is_array v ≡ true) × AllZip T.gives (items v) xs.items };
 
@@ -313,7 +314,6 @@ impl<A: FromJson, B: FromJson, C: FromJson> FromJson for (A, B, C) {
     }
 }
 
-/// The entries of an object.
 impl<T: FromJson> FromJson for BTreeMap<String, T> {
     ghost gives = { λ v m. (is_object v ≡ true) × ReadsEntries T.gives v (tree.get_by_text m)
         × tree.IsOrdered string_cmp m };
@@ -340,7 +340,7 @@ fn char_in(value: &JsonValue) -> Option<char>
     only_char(value.as_str()?)
 }
 
-/// The character of a text that has exactly one.
+/// The character of a text that has exactly one, else `None`.
 fn only_char(text: &str) -> Option<char>
     ensures some { IfSome result (λ c. text.now ≡ encode_utf8 c) }
     ensures one { (c : ℕ) → IsScalar c → text.now ≡ encode_utf8 c → IsSome result }
@@ -353,7 +353,8 @@ fn only_char(text: &str) -> Option<char>
     }
 }
 
-/// The integer that a number is, however it is written, if it fits: 100 of `1e2` and `100.0`.
+/// The integer that a number is, if it fits `i64`: 100 also of `1e2` and `100.0`, which `as_i64`
+/// doesn't take.
 #[tactic(auto, using(crate::proofs::IntegerSteps::integers))]
 fn whole(value: &JsonValue) -> Option<i64>
     ensures { SomeWhere (whole_in (view value.now)) (FitsSigned w64) result }
@@ -364,7 +365,7 @@ fn whole(value: &JsonValue) -> Option<i64>
     value.as_exact_fixed_point_i64(0)
 }
 
-/// The integer that a number is, if it isn't below 0 and fits. It is 0 of `-0` too.
+/// The integer that a number is, if it fits `u64`: 0 also of `-0`.
 #[tactic(auto, using(crate::proofs::IntegerSteps::integers))]
 fn natural(value: &JsonValue) -> Option<u64>
     ensures { SomeWhere (natural_in (view value.now)) (λ n. n < 2 ^ 64) result }
@@ -378,56 +379,48 @@ fn natural(value: &JsonValue) -> Option<u64>
     if whole(value)? == 0 { Some(0) } else { None }
 }
 
-/// `natural`, if it fits `u8`.
 fn u8_in(value: &JsonValue) -> Option<u8>
     ensures { SomeWhere (natural_in (view value.now)) (λ n. n < 2 ^ 8) result }
 {
     u8::try_from(natural(value)?).ok()
 }
 
-/// `natural`, if it fits `u16`.
 fn u16_in(value: &JsonValue) -> Option<u16>
     ensures { SomeWhere (natural_in (view value.now)) (λ n. n < 2 ^ 16) result }
 {
     u16::try_from(natural(value)?).ok()
 }
 
-/// `natural`, if it fits `u32`.
 fn u32_in(value: &JsonValue) -> Option<u32>
     ensures { SomeWhere (natural_in (view value.now)) (λ n. n < 2 ^ 32) result }
 {
     u32::try_from(natural(value)?).ok()
 }
 
-/// `natural`, if it fits `usize`.
 fn usize_in(value: &JsonValue) -> Option<usize>
     ensures { SomeWhere (natural_in (view value.now)) (λ n. n < 2 ^ 64) result }
 {
     usize::try_from(natural(value)?).ok()
 }
 
-/// `whole`, if it fits `i8`.
 fn i8_in(value: &JsonValue) -> Option<i8>
     ensures { SomeWhere (whole_in (view value.now)) (FitsSigned w8) result }
 {
     i8::try_from(whole(value)?).ok()
 }
 
-/// `whole`, if it fits `i16`.
 fn i16_in(value: &JsonValue) -> Option<i16>
     ensures { SomeWhere (whole_in (view value.now)) (FitsSigned w16) result }
 {
     i16::try_from(whole(value)?).ok()
 }
 
-/// `whole`, if it fits `i32`.
 fn i32_in(value: &JsonValue) -> Option<i32>
     ensures { SomeWhere (whole_in (view value.now)) (FitsSigned w32) result }
 {
     i32::try_from(whole(value)?).ok()
 }
 
-/// `whole`, if it fits `isize`.
 fn isize_in(value: &JsonValue) -> Option<isize>
     ensures { SomeWhere (whole_in (view value.now)) (FitsSigned w64) result }
 {

@@ -1,4 +1,5 @@
-//! The errors of a value that isn't what is expected.
+//! The errors of a value that isn't what is expected. Inlined, they would add their locals to each
+//! reader, which clears room for them at each call, also if it succeeds: so most are cold.
 
 ghost use Rattle.std.specs.Prelude.{◌≡◌, None, false, map, true};
 ghost use Rattle.std.specs.Option.{is_some};
@@ -26,8 +27,7 @@ pub fn expected(alloc: Global, value: &JsonValue, words: &'static str) -> Error
     wrong(alloc, value, Expected::Other(words))
 }
 
-/// The error of a value that isn't what is expected. Inlined, it would add its locals to each
-/// reader, which clears room for them at each call, also if it succeeds.
+/// The error of a value that isn't what is expected.
 #[cold]
 pub(super) fn wrong(alloc: Global, value: &JsonValue, expected: Expected) -> Error
     ensures { Refuses expected (view value.now) → IsErrorIn (view value.now) result }
@@ -38,7 +38,7 @@ pub(super) fn wrong(alloc: Global, value: &JsonValue, expected: Expected) -> Err
     }
 }
 
-/// The error of a number of which digits may have been cut. Cold, as `wrong`.
+/// The error of a number of which digits may have been cut.
 #[cold]
 pub(super) fn cut(alloc: Global, value: &JsonValue, expected: Expected) -> Error
     ensures { may_be_cut_in (view value.now) ≡ true → IsErrorIn (view value.now) result }
@@ -49,7 +49,7 @@ pub(super) fn cut(alloc: Global, value: &JsonValue, expected: Expected) -> Error
     }
 }
 
-/// The error of an object that lacks the key. Cold, as `wrong`.
+/// The error, at the key, of an object that lacks it.
 #[cold]
 pub(super) fn missing(alloc: Global, key: &str, expected: Expected) -> Error
     ensures { (v : Value) → is_object v ≡ true → find key.now (entries v) ≡ None
@@ -58,7 +58,7 @@ pub(super) fn missing(alloc: Global, key: &str, expected: Expected) -> Error
     Error::new(alloc, What::Missing(expected)).below_key(alloc, key)
 }
 
-/// The error of an object with a key that isn't among the names.
+/// The error, at the key, of an object that has an unknown one.
 pub(super) fn unknown(alloc: Global, key: &str, known: Known) -> Error
     ensures { (v : Value) → is_object v ≡ true → is_some (find key.now (entries v)) ≡ true
         → is_among (map (λ n. n.now) known.now) key.now ≡ false → IsErrorIn v result }

@@ -16,10 +16,9 @@ use std::alloc::Global;
 use std::collections::BTreeMap;
 use std::result::Result;
 
-/// Types that read back what they write: each value that is written is taken, and gives only results
-/// equal to it. An implementation is a proof of both. What is written of a list, a map, an option, a
-/// box, a pair or a triple is read back if that of its content is; of an option only if nothing is
-/// written as null.
+/// Types that read back what they write: each value that is written is taken, and gives only
+/// results equal to it. An implementation is a proof of both. A container, a box or an option is
+/// read back if its content is; an option only if nothing is written as null.
 pub trait ReadsBack: FromJson + ToJson + PartialEq {
     ghost back: { (x y : Self) (v : Value) → Self.ToJson.shows x v → Self.FromJson.gives v y
         → Self.PartialEq.eq y x ≡ true };

@@ -30,7 +30,7 @@ impl Members {
         }
     }
 
-    /// With an entry more. A key that is there gets the value at its position.
+    /// With an entry more, at the end. A key that is there keeps its position, and gets the value.
     #[tactic(auto, using(crate::proofs::DecodeViews::writing))]
     pub fn put<T: ToJson>(mut self, key: &str, source: &T) -> Result<Members>
         ensures put { IfOk result (λ members. (v : Value) × T.shows source.now v

@@ -1,5 +1,4 @@
-//! The index after `Keys::retain`: that of the keys that are left, in the room of the old one. The
-//! runs are filled one after the other, each up to its old length.
+//! The index of the keys that `Keys::retain` leaves, in the room of the old one.
 ghost use Rattle.std.specs.Prelude.{◌≡◌, ◌≤◌, ◌+◌, ◌-◌, drop, length, map, min, take};
 ghost use Rattle.std.specs.List.Sorted.{IsPermutation, IsSorted};
 ghost use Rattle.jzon_base.specs.Private.Runs.{all_entries, IsIndexOf};
@@ -11,7 +10,7 @@ use crate::key::Key;
 use crate::keys::entries::{self, IndexEntry};
 use crate::keys::hash::hash_of;
 
-/// Replaces entries by those of as many keys from a position on, in the order of the keys.
+/// Replaces all entries by those of the keys from position `from` on, unsorted.
 fn put_hashed(entries: &mut [IndexEntry], keys: &[Key], from: usize)
     requires { from + length entries.old ≤ length keys.now }
     ensures { entries.new ≡ hashed_from from (take (length entries.old) (drop from keys.now)) }
@@ -25,8 +24,8 @@ fn put_hashed(entries: &mut [IndexEntry], keys: &[Key], from: usize)
 }
 
 impl Run {
-    /// Replaces the entries by those of as many keys from a position on, or of all that are left,
-    /// and returns the position after them.
+    /// Replaces the entries by those of as many keys from position `from` on, or of all that are
+    /// left, and returns the position after them.
     fn refill(&mut self, keys: &[Key], from: usize) -> usize
         requires { from ≤ length keys.now }
         ensures end { result ≡ min (from + length self.old) (length keys.now) }
@@ -43,8 +42,8 @@ impl Run {
 }
 
 impl Runs {
-    /// Replaces the entries by those of at most as many keys. Runs for which no key is left become
-    /// empty. Takes no memory.
+    /// Replaces the index by that of `keys`, which are at most as many. Runs for which no key is
+    /// left become empty. Allocates nothing.
     pub fn refill(&mut self, keys: &[Key])
         requires { length keys.now ≤ length (all_entries self.old) }
         ensures { IsIndexOf (map hash_of keys.now) keys.now self.new }
