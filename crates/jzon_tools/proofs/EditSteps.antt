@@ -4,7 +4,7 @@ use Rattle.std.proofs.Common.{Bool, true, false, nat_lt, if◌then◌else◌, re
 use Rattle.std.proofs.lemmas.Bool.Decides.{nat_tests}
 use Rattle.std.proofs.lemmas.List.{length-map}
 use Rattle.std.specs.Str.{bytes_eq}
-use Rattle.std.proofs.lemmas.Option.{slice_get-map, slice_get_past}
+use Rattle.std.proofs.lemmas.Option.{none-some, slice_get-map, slice_get_past}
 use Rattle.std.specs.List.{insert, remove}
 use Rattle.std.specs.Option.{option_map_or}
 use Rattle.jzon.specs.Entries.{entries_of}
@@ -64,22 +64,16 @@ member-new o t new k named =
 
 -- ---- removal
 
-removed_by : (items : List JsonValue) (i : ℕ) (o : Option JsonValue)
-    → option_map (λ c. array (values_of (remove (map view items) i))) (option_map view o)
-    ≡ option_map (λ c. array_seen (remove items i)) o
-removed_by items i None = refl
-removed_by items i (Some v) = ap (λ vs. Some (array (values_of vs))) (sym (map-remove view items i))
-
-pub element-removed : (items : List JsonValue) (t : List ℕ) (i : ℕ) (r : Option JsonValue) → index_named t ≡ Some i
-    → slice_get items i ≡ r → without (array_seen items) t ≡ option_map (λ c. array_seen (remove items i)) r
-element-removed items t i r named at =
+pub element-removed : (items : List JsonValue) (t : List ℕ) (i : ℕ) (c : JsonValue) → index_named t ≡ Some i
+    → slice_get items i ≡ Some c → without (array_seen items) t ≡ Some (array_seen (remove items i))
+element-removed items t i c named at =
     ap (option_and_then (λ j. option_map (λ c. array (values_of (remove (list_of_values (values_of (map view items))) j)))
     (slice_get (list_of_values (values_of (map view items))) j))) named
     ∙ ap (λ vs. option_map (λ c. array (values_of (remove vs i))) (slice_get vs i))
     (list_of_values-values_of (map view items))
     ∙ ap (option_map (λ c. array (values_of (remove (map view items) i))))
     (slice_get-map view items i ∙ ap (option_map view) at)
-    ∙ removed_by items i r
+    ∙ ap (λ vs. Some (array (values_of vs))) (sym (map-remove view items i))
 
 cut_by : (ps : List (List ℕ × JsonValue)) (k : Option (List ℕ))
     → option_and_then (λ j. option_map (λ c. object (pairs_of (cut j (list_of_pairs (pairs_of (viewed ps))))))
@@ -91,26 +85,21 @@ cut_by ps (Some k) =
     ∙ ap (λ qs. option_map (λ c. object (pairs_of qs)) (find k (viewed ps))) (sym (viewed-cut k ps))
     ∙ ap (option_map (λ c. object (pairs_of (viewed (cut k ps))))) (sym (find-viewed k ps))
 
-unseen : (w : Value) (r : Option JsonValue) → option_map (λ c. w) (option_map view r) ≡ option_map (λ c. w) r
-unseen w None = refl
-unseen w (Some v) = refl
-
-cut_result : (ps qs : List (List ℕ × JsonValue)) (r : Option JsonValue) (k : Option (List ℕ))
-    → option_and_then (λ j. find j ps) k ≡ r → option_map_or (λ j. cut j ps) k ps ≡ qs
+cut_result : (ps qs : List (List ℕ × JsonValue)) (c : JsonValue) (k : Option (List ℕ))
+    → option_and_then (λ j. find j ps) k ≡ Some c → option_map_or (λ j. cut j ps) k ps ≡ qs
     → option_and_then (λ j. option_map (λ c. object (pairs_of (viewed (cut j ps)))) (option_map view (find j ps))) k
-    ≡ option_map (λ c. object (pairs_of (viewed qs))) r
-cut_result ps qs r None there left = ap (option_map (λ (c : JsonValue). object (pairs_of (viewed qs)))) there
-cut_result ps qs r (Some k) there left =
-    unseen (object (pairs_of (viewed (cut k ps)))) (find k ps)
-    ∙ ap (λ l. option_map (λ (c : JsonValue). object (pairs_of (viewed l))) (find k ps)) left
-    ∙ ap (option_map (λ (c : JsonValue). object (pairs_of (viewed qs)))) there
+    ≡ Some (object (pairs_of (viewed qs)))
+cut_result ps qs c None there left = absurd (none-some c there)
+cut_result ps qs c (Some k) there left =
+    ap (λ r. option_map (λ (w : Value). object (pairs_of (viewed (cut k ps)))) (option_map view r)) there
+    ∙ ap (λ l. Some (object (pairs_of (viewed l)))) left
 
-pub member-removed : (o : Object) (t : List ℕ) (r : Option JsonValue) (qs : List (List ℕ × JsonValue))
-    → option_and_then (λ k. find k (entries_of o)) (token_key t) ≡ r
+pub member-removed : (o : Object) (t : List ℕ) (c : JsonValue) (qs : List (List ℕ × JsonValue))
+    → option_and_then (λ k. find k (entries_of o)) (token_key t) ≡ Some c
     → option_map_or (λ k. cut k (entries_of o)) (token_key t) (entries_of o) ≡ qs
-    → without (view_object o) t ≡ option_map (λ c. object (pairs_of (viewed qs))) r
-member-removed o t r qs there left =
-    cut_by (entries_of o) (token_key t) ∙ cut_result (entries_of o) qs r (token_key t) there left
+    → without (view_object o) t ≡ Some (object (pairs_of (viewed qs)))
+member-removed o t c qs there left =
+    cut_by (entries_of o) (token_key t) ∙ cut_result (entries_of o) qs c (token_key t) there left
 
 -- ---- what is shifted
 

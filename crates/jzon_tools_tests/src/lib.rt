@@ -19,7 +19,6 @@ mod locate;
 #[cfg(test)]
 mod merge;
 #[cfg(test)]
-#[cfg(test)]
 mod patch;
 #[cfg(test)]
 mod pointer;

@@ -30,7 +30,7 @@ use std::alloc::Global;
 /// different lengths the equal elements at the beginning and at the end are left as they are, and
 /// what is between is changed, and then cut or added to. Anything else that differs is replaced, as
 /// are values at a path of more than 512 bytes, and an array or an object of which so many parts are
-/// removed, or inserted before others, that `apply` would move more than 2^24 in it.
+/// removed, or inserted before others, that `apply` would shift more than 2^24 in it.
 ///
 /// Takes time in proportion to both values, and memory for the patch: at most about 1,500 bytes for
 /// each operation, beside the new values and the keys that it has. Goes at most 513 levels deep;
@@ -62,9 +62,9 @@ const LONGEST_PATH: usize = 512;
 /// In objects with more entries each value is a small part, and is first compared as a whole.
 const SMALL_OBJECT: usize = 16;
 
-/// How many elements or entries `apply` may move for removals from one container, or insertions
-/// into it: 2^24.
-const MOST_MOVED: usize = 16_777_216;
+/// How many elements or entries `apply` may shift for removals from one container, or insertions
+/// into it: 2^24, a quarter of what `Limits::USUAL` allows for a patch.
+const MOST_SHIFTED: usize = 16_777_216;
 
 /// The operations so far, and the path of the values that are compared.
 #[derive(Drop)]
@@ -84,7 +84,7 @@ impl Changes {
         ensures path { OnOk result (string_bytes self.new.path ≡ string_bytes self.old.path) }
         ensures memory { IsOkUnless result Error.OutOfMemory }
     {
-        if self.path.len() > LONGEST_PATH || moves_much(old, new) {
+        if self.path.len() > LONGEST_PATH || shifts_much(old, new) {
             return self.whole(old, new);
         }
         match (old, new) {
@@ -310,19 +310,19 @@ impl Changes {
 }
 
 /// Whether a patch from one value to the other that changes its parts would be slow to apply: each
-/// removal and each insertion moves what stands behind. Only the form of the patch depends on it.
-fn moves_much(old: &JsonValue, new: &JsonValue) -> bool {
+/// removal and each insertion shifts what stands behind. Only the form of the patch depends on it.
+fn shifts_much(old: &JsonValue, new: &JsonValue) -> bool {
     match (old, new) {
-        (JsonValue::Object(from), JsonValue::Object(to)) => members_move_much(from, to),
-        (JsonValue::Array(from), JsonValue::Array(to)) => elements_move_much(from, to),
+        (JsonValue::Object(from), JsonValue::Object(to)) => members_shift_much(from, to),
+        (JsonValue::Array(from), JsonValue::Array(to)) => elements_shift_much(from, to),
         _ => false,
     }
 }
 
-/// Whether entries of objects would be moved too much: only a removal moves any, and goes over all.
+/// Whether entries of objects would be shifted too much: only a removal shifts any, and goes over all.
 /// Ends as soon as enough keys are found that stay; those that both objects have are mostly in one
 /// order.
-fn members_move_much(from: &Object, to: &Object) -> bool {
+fn members_shift_much(from: &Object, to: &Object) -> bool {
     let all = from.len();
     let mut removed = all;
     for key in from.keys() {
@@ -336,9 +336,9 @@ fn members_move_much(from: &Object, to: &Object) -> bool {
     is_much(removed, all)
 }
 
-/// Whether elements of arrays would be moved too much: behind those that are removed or inserted
+/// Whether elements of arrays would be shifted too much: behind those that are removed or inserted
 /// are the equal ones at the end, and behind one that is removed those that will be, too.
-fn elements_move_much(from: &[JsonValue], to: &[JsonValue]) -> bool {
+fn elements_shift_much(from: &[JsonValue], to: &[JsonValue]) -> bool {
     let count = from.len().abs_diff(to.len());
     if !is_much(count, from.len()) {
         return false;
@@ -350,10 +350,10 @@ fn elements_move_much(from: &[JsonValue], to: &[JsonValue]) -> bool {
     )
 }
 
-/// Whether so many removals or insertions, each of which moves so many elements or entries, move
+/// Whether so many removals or insertions, each of which shifts so many elements or entries, shift
 /// too many.
-fn is_much(count: usize, moved: usize) -> bool {
-    count.saturating_mul(moved) > MOST_MOVED
+fn is_much(count: usize, shifted: usize) -> bool {
+    count.saturating_mul(shifted) > MOST_SHIFTED
 }
 
 /// The value of a key. It is first looked for at an index: objects mostly have their keys in one

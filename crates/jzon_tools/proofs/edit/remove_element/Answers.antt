@@ -28,7 +28,7 @@ returns-clause-new c =
     let items = c.args.items.now.items in
     let index = c.in-Some.index in
     let there = slice_get_read items (length items) index c.remove.result refl (omega arith) c.remove.ensures.value in
-    element-removed items c.args.token.now index (Some c.remove.result) (sym c.in-Some.ensures) there
+    element-removed items c.args.token.now index c.remove.result (sym c.in-Some.ensures) there
     ∙ ap (λ vs. Some (array_seen vs)) (sym c.remove.ensures.items)
 
 pub returns-clause-left : goal.returns-clause-left

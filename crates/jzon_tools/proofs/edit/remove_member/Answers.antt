@@ -37,7 +37,7 @@ returns-in-Some-shift_remove_index-clause-new c =
     let i = c.in-Some.position in
     let at = sym c.in-Some.ensures in
     let there = entry-at token es (Some i) at ∙ ap (option_map (λ p. p.1)) (sym c.in-Some-shift_remove_index.ensures.entry) in
-    member-removed c.args.object.now token (Some c.in-Some-shift_remove_index.old) _ there
+    member-removed c.args.object.now token c.in-Some-shift_remove_index.old _ there
     (named-cut token es i at ∙ sym c.in-Some-shift_remove_index.ensures.after)
 
 pub returns-in-Some-shift_remove_index-clause-left : goal.returns-in-Some-shift_remove_index-clause-left
