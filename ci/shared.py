@@ -49,7 +49,7 @@ def is_of_allocations(crate, test):
 def built(crate):
     """The path of this crate's program. If it isn't built yet, or if a source is newer, it is proved and built here."""
     path = f"crates/{crate}/out/{crate}"
-    sources = glob.glob("crates/*/*/**/*.[ra]*t", recursive=True)
+    sources = glob.glob("crates/*/[sp]*/**/*.[ra]*t", recursive=True)
     if not os.path.exists(path) or os.path.getmtime(path) < max(map(os.path.getmtime, ["crates.txt", *sources])):
         with open(f"crates/{crate}/stdin", "rb") as text:
             how = {"stdin": text, "stdout": subprocess.DEVNULL, "stderr": subprocess.DEVNULL}
