@@ -1,10 +1,12 @@
 //! What an error says of a value that isn't what is expected.
 
-ghost use Rattle.std.specs.Prelude.{◌≡◌, IfOk, Some};
+ghost use Rattle.std.specs.Prelude.{◌≡◌, ◌≢◌, IfOk, Some};
 ghost use Rattle.jzon.specs.Readers.{text_in};
 ghost use Rattle.jzon.specs.Value.{Value};
 ghost use Rattle.jzon.specs.View.{view};
 ghost use Rattle.jzon_pointer.specs.Found.{FoundIs, may_be_cut};
+ghost use Rattle.jzon_pointer.specs.declared.error.parts.Found.TheVariants.{Hidden};
+ghost use Rattle.jzon_pointer.specs.declared.pointer.Primitive.{Primitive};
 
 use super::Found;
 use jzon::JsonValue;
@@ -19,7 +21,8 @@ pub const LONGEST: usize = 40;
 #[cold]
 #[tactic(auto, using(crate::proofs::FoundViews::describing))]
 pub fn found_in(alloc: Global, value: &JsonValue) -> Result<Found, AllocError>
-    ensures { IfOk result (λ f. FoundIs f (view value.now)) }
+    ensures found { IfOk result (λ f. FoundIs f (view value.now)) }
+    ensures shown { IfOk result (λ f. (p : Primitive) → f ≢ Hidden p) }
 {
     match value {
         JsonValue::Null => Ok(Found::Null),
@@ -35,7 +38,8 @@ pub fn found_in(alloc: Global, value: &JsonValue) -> Result<Found, AllocError>
 /// What a string is: a copy, or if it has more than `LONGEST` characters, their count. It fails
 /// only if memory lacks for the copy.
 pub fn found_text(alloc: Global, text: &str) -> Result<Found, AllocError>
-    ensures { IfOk result (λ f. (v : Value) → text_in v ≡ Some text.now → FoundIs f v) }
+    ensures found { IfOk result (λ f. (v : Value) → text_in v ≡ Some text.now → FoundIs f v) }
+    ensures shown { IfOk result (λ f. (p : Primitive) → f ≢ Hidden p) }
 {
     let count = text.chars().count();
     if count > LONGEST {

@@ -4,4 +4,4 @@ use Rattle.jzon_typed.proofs.decode.wrong.wrong.Goals as goal
 
 pub returns-in-Ok : goal.returns-in-Ok
 returns-in-Ok c = λ refused.
-    wrong-error (view c.args.value.now) c.new.result c.args.expected c.in-Ok.found c.new.ensures c.in-Ok.ensures refused
+    wrong-error (view c.args.value.now) c.new.result c.args.expected c.in-Ok.found c.new.ensures c.in-Ok.ensures.found refused
