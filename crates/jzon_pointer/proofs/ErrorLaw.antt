@@ -124,8 +124,8 @@ pointer-error-short _ p = lit≤ tt
 
 ruleset words_lengths = (lengths, expected-short, found-short, cause-short, pointer-error-short)
 
-what-short : (w : What) (p : List ℕ) → length (what_words w p) ≤ 491
-what-short what.NotANumber p = lit≤ tt
+what-short : (w : What) (p : List ℕ) → length (what_words w p) ≤ 707
+what-short (what.Said words) p = grind (arith, words_lengths)
 what-short _ p = grind (arith, words_lengths)
 
 text-short : (e : text.Error) → length (text_words e) ≤ 224
@@ -134,7 +134,7 @@ text-short _ = grind (arith, lengths)
 
 -- ---- the message
 
-all-words-short : (i : Inner) → length (inner_words i) ≤ 491
+all-words-short : (i : Inner) → length (inner_words i) ≤ 707
 all-words-short (Text l) = grind (arith, text-short)
 all-words-short (Boxed b) = what-short b.value.what (string_bytes b.value.pointer)
 all-words-short _ = lit≤ tt
@@ -154,7 +154,7 @@ at-short : (at : Option (ℕ × ℕ)) → length (at_text at) ≤ 47
 at-short None = lit≤ tt
 at-short (Some p) = grind (arith, lengths)
 
-line-short : (s t u v w : List ℕ) → length s ≤ 32 → length t ≤ 9 → length u ≤ 204 → length v ≤ 491 → length w ≤ 47
+line-short : (s t u v w : List ℕ) → length s ≤ 32 → length t ≤ 9 → length u ≤ 204 → length v ≤ 707 → length w ≤ 47
     → length (s ++ (t ++ (u ++ (v ++ w)))) ≤ 1000
 line-short s t u v w a b c d e = grind (arith, length-append)
 

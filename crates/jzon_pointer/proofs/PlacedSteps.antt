@@ -81,7 +81,6 @@ module _ (r : Reading) (bytes : List ℕ) where
   value_by (what.Wrong x g) p at m u d f = f
   value_by (what.Cut x g) p at m u d f = f
   value_by (what.Operation x) p at m u d f = f
-  value_by what.NotANumber p at m u d f = f
   value_by (what.Said x) p at m u d f = f
   value_by (what.Custom x) p at m u d f = f
 

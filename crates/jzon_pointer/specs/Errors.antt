@@ -42,7 +42,7 @@ use Rattle.jzon_pointer.specs.declared.pointer.Reason.TheVariants.{BadEscape, No
 abbrev pub memory : Error
 memory = record { inner = Memory }
 
--- the error of a NaN for whose report there is no memory
+-- the error of a NaN
 abbrev pub not_a_number : Error
 not_a_number = record { inner = NotANumber }
 
@@ -62,15 +62,9 @@ inner_memory _ = false
 abbrev pub is_memory : Error → Bool
 is_memory e = inner_memory e.inner
 
--- whether this is a NaN
-abbrev pub is_nan : What → Bool
-is_nan what.NotANumber = true
-is_nan _ = false
-
 -- whether it says that a number is a NaN
 abbrev pub inner_nan : Inner → Bool
 inner_nan NotANumber = true
-inner_nan (Boxed b) = is_nan b.value.what
 inner_nan _ = false
 
 -- whether it says so
@@ -130,7 +124,7 @@ SaysOrMemory e w p n m at = (e ≡ memory) ⊎ Says e w p n m at
 abbrev pub IsLost : Result Value PointerError → List ℕ → Error → Type 0
 IsLost r path e = (lost : PointerError) × (r ≡ Err lost) × SaysOrMemory e (Some (what.Pointer lost)) path None None None
 
--- an error becomes one that says this; that of a text, and of memory, even for the report of a NaN, stays as it is
+-- an error becomes one that says this; that of a text, of memory or of a NaN stays as it is
 abbrev pub Becomes : Error → Error → Option What → List ℕ → Option ℕ → Option Member → Option Place → Type 0
 Becomes e f w p n m at = MatchOption (what_of e) (f ≡ e) (λ _. Says f w p n m at)
 
@@ -261,7 +255,6 @@ what_words (what.Cut e f) p =
 what_words (what.Missing e) p = codes "missing, expected " ++ expected_text e
 what_words (what.Unknown known) p = codes "unknown key, expected " ++ names_text (map (λ n. n.now) known.now)
 what_words (what.Operation c) p = cause_text c
-what_words what.NotANumber p = codes "not a number"
 what_words (what.Said words) p = words_shown words.now
 what_words (what.Custom words) p = words_shown (string_bytes words)
 

@@ -1,16 +1,15 @@
 //! Errors of all that stands beside `jzon`, in one form: what went wrong, and where. `error_text`
 //! of specs/Errors.antt is what an error prints.
 //!
-//! An error of a value, a pointer or a patch has a report. One of a text, of memory, or of a NaN
-//! for which memory lacks, has none, and calls that would change it leave it as it is (`Becomes`).
+//! An error of a value, a pointer or a patch has a report. One of a text, of memory or of a NaN has
+//! none, and calls that would change it leave it as it is (`Becomes`).
 
-ghost use Rattle.std.specs.Prelude.{◌≡◌, ◌⊎◌, ◌∷◌, ◌++◌, [], true, None, Some, option_map, string_bytes};
+ghost use Rattle.std.specs.Prelude.{◌≡◌, ◌∷◌, ◌++◌, [], None, Some, option_map, string_bytes};
 ghost use Rattle.std.specs.Fmt.{decimal};
 ghost use Rattle.std.specs.IoError.{error_kind};
 ghost use Rattle.std.specs.Option.{option_copied};
 ghost use Rattle.jzon_pointer.specs.Escaped.{escaped};
-ghost use Rattle.jzon_pointer.specs.Errors.{error_text, hidden_what, is_memory, is_not_a_number, kind_of, located_error, member_of, memory, not_a_number, operation_of, place_of, pointer_of, position_of, text_of, what_of, Becomes, BecomesOrMemory, Says, SaysOrMemory, ShortLaw};
-ghost use Rattle.jzon_pointer.specs.declared.error.What.TheVariants as what;
+ghost use Rattle.jzon_pointer.specs.Errors.{error_text, hidden_what, is_memory, is_not_a_number, kind_of, located_error, member_of, memory, operation_of, place_of, pointer_of, position_of, text_of, what_of, Becomes, BecomesOrMemory, SaysOrMemory, ShortLaw};
 
 mod found;
 mod located;
@@ -76,8 +75,6 @@ pub enum What {
     Unknown(Known),
     /// The operation of a patch can't be done.
     Operation(Cause),
-    /// The number is a NaN, which no text means.
-    NotANumber,
     /// What a program says in its own words.
     Said(&'static str),
     /// What a program says in words that it made.
@@ -90,28 +87,17 @@ impl Error {
         inner: Inner::Memory,
     };
 
+    /// The error of a NaN, which no text means.
+    pub const NOT_A_NUMBER: Error = Error {
+        inner: Inner::NotANumber,
+    };
+
     /// The error of what went wrong with the whole value, whose pointer is empty.
     #[cold]
     pub fn new(alloc: Global, what: What) -> Error
         ensures { SaysOrMemory result (Some what) [] None None None }
     {
         Error::boxed(alloc, what, String::new(alloc))
-    }
-
-    /// The error of a NaN, of the whole value. If memory lacks for its report, only
-    /// `is_not_a_number` tells it apart.
-    #[cold]
-    pub fn not_a_number(alloc: Global) -> Error
-        ensures error { (result ≡ not_a_number) ⊎ Says result (Some what.NotANumber) [] None None None }
-        ensures nan { is_not_a_number result ≡ true }
-    {
-        let error = Error::new(alloc, What::NotANumber);
-        if error.is_not_a_number() {
-            return error;
-        }
-        Error {
-            inner: Inner::NotANumber,
-        }
     }
 
     /// The error of what went wrong at a pointer.
@@ -228,11 +214,7 @@ impl Error {
     pub fn is_not_a_number(&self) -> bool
         ensures { result ≡ is_not_a_number self.now }
     {
-        match &self.inner {
-            Inner::NotANumber => true,
-            Inner::Boxed(report) => matches!(&report.what, What::NotANumber),
-            _ => false,
-        }
+        matches!(&self.inner, Inner::NotANumber)
     }
 
     /// What went wrong with a value, a pointer or a patch. `None` without a report.

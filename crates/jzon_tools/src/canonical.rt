@@ -14,8 +14,7 @@ ghost use Rattle.jzon.specs.Generator.{Adds, Just};
 ghost use Rattle.jzon.specs.Lawful.{HasNoNan};
 ghost use Rattle.jzon.specs.Value.{array};
 ghost use Rattle.jzon.specs.View.{view, view_object, view_values};
-ghost use Rattle.jzon_pointer.specs.Errors.{is_not_a_number, memory, not_a_number, Says};
-ghost use Rattle.jzon_pointer.specs.declared.error.What.TheVariants as what;
+ghost use Rattle.jzon_pointer.specs.Errors.{is_not_a_number, memory, not_a_number};
 ghost use Rattle.jzon_tools.specs.Canonical as canonical;
 ghost use Rattle.jzon_tools.specs.Canonical.{has_nan, have_nan, normal_number};
 ghost use Rattle.jzon.specs.Reading.{strict_exact};
@@ -44,15 +43,14 @@ use std::{io, slice};
 pub fn canonical_text(alloc: Global, value: &JsonValue) -> std::result::Result<String, Error>
     ensures text { IfOk result (λ text. string_bytes text ≡ canonical.canonical (view value.now)) }
     ensures number { OnOk result (HasNoNan (view value.now)) }
-    ensures error { IfErr result (λ e. (e ≡ memory) ⊎ ((e ≡ not_a_number)
-        ⊎ Says e (Some what.NotANumber) [] None None None)) }
+    ensures error { IfErr result (λ e. (e ≡ memory) ⊎ (e ≡ not_a_number)) }
     ensures nan { IfErr result (λ e. (is_not_a_number e ≡ true)
         ↔ (HasNoNan (view value.now) → ⊥)) }
 {
     match text_of(alloc, value) {
         Ok(text) => Ok(text),
         // The writing ends at the first NaN, but also before it, if an allocation fails.
-        Err(_) if has_nan(value) => Err(Error::not_a_number(alloc)),
+        Err(_) if has_nan(value) => Err(Error::NOT_A_NUMBER),
         Err(_) => Err(Error::MEMORY),
     }
 }

@@ -6,7 +6,7 @@ use crate::common::{
 use jzon::number::NAN;
 use jzon::short::Short;
 use jzon::{Error as TextError, JsonValue, parse};
-use jzon_pointer::error::{Error, What};
+use jzon_pointer::error::Error;
 use jzon_test_support::{RUNS_MAX, Refusals, keys_by_hash, object_text, rows};
 use jzon_tools::canonical::{canonical_text, of_text, sort_keys, sorted};
 use std::alloc::Global;
@@ -145,15 +145,15 @@ fn nan_has_no_text(rt: HostRuntime) -> Tested {
     for (text, keys) in NAN_ROWS {
         let value = with_nan(rt.alloc(), text, keys)?;
         let result = canonical_text(rt.alloc(), &value);
-        let error = Error::not_a_number(rt.alloc());
+        let error = Error::NOT_A_NUMBER;
         expect(&rt, text, error.is_not_a_number());
-        expect(&rt, text, error.what() == Some(&What::NotANumber));
+        expect(&rt, text, error.what().is_none());
         expect(&rt, text, result == Err(error));
         let copy = sorted(rt.alloc(), &value)?;
         expect(&rt, text, copy == value);
     }
     expect(&rt, "memory", !Error::MEMORY.is_not_a_number());
-    let error = Error::new(rt.alloc(), What::NotANumber);
+    let error = Error::NOT_A_NUMBER;
     expect_message(&rt, "Display", &error, "not a number")?;
     expect_raised(
         &rt,

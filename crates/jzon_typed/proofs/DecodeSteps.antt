@@ -91,7 +91,6 @@ what-below v c t (what.Missing x) q lacks at (r, k, o, cut, there, is_one, last)
 what-below v c t (what.Unknown known) q lacks at (r, k, o, cut, there, is_one, last) =
     ((47 ∷ t) ++ r, k, o, cut-below t r k q cut, below-value v c o t r lacks at there, is_one, last)
 what-below v c t (what.Operation x) q lacks at h = h
-what-below v c t what.NotANumber q lacks at h = h
 what-below v c t (what.Said x) q lacks at h = h
 what-below v c t (what.Custom x) q lacks at h = h
 
@@ -187,7 +186,6 @@ what-hidden v (what.Cut x f) p (w, there, says, cut) = (w, there, found-hidden f
 what-hidden v (what.Missing x) p h = h
 what-hidden v (what.Unknown known) p h = h
 what-hidden v (what.Operation x) p h = h
-what-hidden v what.NotANumber p h = h
 what-hidden v (what.Said x) p h = h
 what-hidden v (what.Custom x) p h = h
 
@@ -224,7 +222,6 @@ what-hides (what.Cut x f) = found-hides f
 what-hides (what.Missing x) = tt
 what-hides (what.Unknown known) = tt
 what-hides (what.Operation x) = tt
-what-hides what.NotANumber = tt
 what-hides (what.Said x) = tt
 what-hides (what.Custom x) = tt
 

@@ -121,7 +121,6 @@ fn show_what<W: fmt::Write>(f: &mut fmt::Formatter<W>, what: &What, pointer: &st
             show_names(f, known)
         }
         What::Operation(cause) => write!(f, "{cause}"),
-        What::NotANumber => f.write_str("not a number"),
         What::Said(words) => write!(f, "{}", ShownWords(*words)),
         What::Custom(words) => write!(f, "{}", ShownWords(words.as_str())),
     }
