@@ -1,12 +1,12 @@
 -- How long a stranger's text is at most where it is cut.
-use Rattle.std.proofs.Common.{◌≡◌, ◌≤◌, ◌<◌, ◌+◌, ◌-◌, ◌*◌, ℕ, suc, List, [], ◌∷◌, ◌++◌, Bool, true, false, ◌&&◌, if◌then◌else◌, nat_le, length, min, max, take}
+use Rattle.std.proofs.Common.{◌≡◌, ◌≤◌, ◌<◌, ◌+◌, ◌-◌, ◌*◌, ℕ, suc, List, [], ◌∷◌, ◌++◌, Bool, true, false, not, ◌&&◌, if◌then◌else◌, nat_le, length, min, max, take}
 use Rattle.std.proofs.Common.{codes, chars, refl, ap, ◌∙◌, inl, inr, arith, length-append}
 use Rattle.std.proofs.lemmas.Bool.{and_parts, cases_lt}
 use Rattle.std.proofs.lemmas.Bool.Decides.{nat_tests}
 use Rattle.std.proofs.lemmas.List.{length-take}
 use Rattle.std.proofs.Math.Nat.{mul-div-le, mul-le-mul_left, mul-suc}
-use Rattle.std.specs.List.{list_all}
-use Rattle.jzon_pointer.specs.Shown.{cut_text, fitted, fitting, is_seen, more_text, name_shown, names_text, others_text, piece, pieces}
+use Rattle.std.specs.List.{list_any}
+use Rattle.jzon_pointer.specs.Shown.{cut_text, fitted, fitting, is_hidden, more_text, name_shown, names_text, others_text, piece, pieces}
 use Rattle.jzon_pointer.specs.Shown.{pointer_shown, shown_char, shown_text, token_shown, widest, words_shown}
 
 -- ---- the pieces of a text
@@ -137,8 +137,8 @@ pointer-short p =
 
 pub words-short : (t : List ℕ) → length (words_shown t) ≤ 202
 words-short t =
-    one_of (nat_le (length t) 200 && list_all is_seen (chars t)) t (fitted 200 (fitting 200 t) 0 t) 200 202 (omega arith)
-    (λ h. few 200 (length t) (and_parts (nat_le (length t) 200) (list_all is_seen (chars t)) h).0)
+    one_of (nat_le (length t) 200 && not (list_any is_hidden (chars t))) t (fitted 200 (fitting 200 t) 0 t) 200 202 (omega arith)
+    (λ h. few 200 (length t) (and_parts (nat_le (length t) 200) (not (list_any is_hidden (chars t))) h).0)
     (fitted-short 200 (fitting 200 t) 0 202 t (omega arith)
     (cut-short (fitting 200 t) 0 200 0 t (fits 200 t) (none (widest (chars t)))))
 
@@ -147,12 +147,12 @@ name-short t =
     fitted-short 40 (fitting 40 t) 0 42 t (omega arith)
     (cut-short (fitting 40 t) 0 40 0 t (fits 40 t) (none (widest (chars t))))
 
-pub token-short : (t : List ℕ) → length (token_shown t) ≤ 242
+pub token-short : (t : List ℕ) → length (token_shown t) ≤ 458
 token-short t =
     let m = widest (chars t) in
-    let less = scaled m (min (fitting 240 t) 40) (fitting 240 t) (omega arith) in
-    let all = fits 240 t in
-    cut-short (min (fitting 240 t) 40) 0 240 0 t (omega arith) (none m)
+    let less = scaled m (min (fitting 456 t) 40) (fitting 456 t) (omega arith) in
+    let all = fits 456 t in
+    cut-short (min (fitting 456 t) 40) 0 456 0 t (omega arith) (none m)
 
 -- ---- names
 

@@ -15,7 +15,7 @@ use Rattle.jzon_pointer.specs.Errors.{in_operation_text, inner_words, lost_text,
 use Rattle.jzon_pointer.specs.Errors.{place_of, pointer_of, pointer_words, position_of, text_of, text_words}
 use Rattle.jzon_pointer.specs.Errors.{what_words, words_text}
 use Rattle.jzon_pointer.specs.ErrorTexts.{parent_text, primitive_text, token_text}
-use Rattle.jzon_pointer.specs.Shown.{escape_text, is_hidden, is_hidden_pair, pair_text, place_text, shown_char}
+use Rattle.jzon_pointer.specs.Shown.{escape_text, is_hidden_pair, is_hidden_unit, pair_text, place_text, shown_char}
 use Rattle.jzon_pointer.specs.declared.error.Error.{Error}
 use Rattle.jzon_pointer.specs.declared.error.Inner.{Inner}
 use Rattle.jzon_pointer.specs.declared.error.Inner.TheVariants.{Text, Boxed}
@@ -75,7 +75,7 @@ char-short c =
     (either (c == 92) _ _ 12 (lit≤ tt)
     (either (c == 10) _ _ 12 (lit≤ tt)
     (either (c == 13) _ _ 12 (lit≤ tt)
-    (either (c == 9) _ _ 12 (lit≤ tt) (either (is_hidden c) (escape_text c) _ 12 (lit≤ tt) (wide-short c))))))
+    (either (c == 9) _ _ 12 (lit≤ tt) (either (is_hidden_unit c) (escape_text c) _ 12 (lit≤ tt) (wide-short c))))))
 
 -- ---- what an error names
 
@@ -104,7 +104,7 @@ expected-short : (e : Expected) → length (expected_text e) ≤ 202
 expected-short (expected.Other words) = words-short words.now
 expected-short _ = grind (arith, nat_tests, lengths)
 
-found-short : (f : Found) → length (found_text f) ≤ 244
+found-short : (f : Found) → length (found_text f) ≤ 460
 found-short (found.Boolean true) = lit≤ tt
 found-short (found.Boolean false) = lit≤ tt
 found-short _ = grind (arith, nat_tests, lengths)
@@ -113,11 +113,11 @@ cause-short : (c : Cause) → length (cause_text c) ≤ 24
 cause-short cause.NotAnArray = lit≤ tt
 cause-short _ = grind (arith, lengths)
 
-lost-short : (r : Reason) (p t : List ℕ) → length (lost_text r p t) ≤ 484
+lost-short : (r : Reason) (p t : List ℕ) → length (lost_text r p t) ≤ 700
 lost-short BadEscape p t = lit≤ tt
 lost-short _ p t = grind (arith, nat_tests, lengths)
 
-pointer-error-short : (e : PointerError) (p : List ℕ) → length (pointer_words e p) ≤ 484
+pointer-error-short : (e : PointerError) (p : List ℕ) → length (pointer_words e p) ≤ 700
 pointer-error-short (pointer.Missing start end reason) p =
     lost-short reason (parent_text p start) (token_text p start end)
 pointer-error-short _ p = lit≤ tt

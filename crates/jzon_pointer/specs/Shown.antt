@@ -2,17 +2,17 @@
 use Rattle.std.specs.Prelude.{ℕ, suc, List, [], ◌∷◌, ◌++◌, ◌+◌, ◌-◌, ◌/◌, ◌%◌, Bool, not, ◌||◌, ◌&&◌, ◌==◌, nat_lt, nat_le, if◌then◌else◌}
 use Rattle.std.specs.Prelude.{chars, codes, encode_utf8, flat_map, length, max, min, take}
 use Rattle.std.specs.Char.{digit_char}
-use Rattle.std.specs.List.{list_all}
+use Rattle.std.specs.List.{list_any}
 use Rattle.jzon.specs.Error.{Error}
 use Rattle.jzon.specs.Error.TheVariants.{UnexpectedCharacter}
 use Rattle.jzon.specs.ErrorText.{place_text as position_text}
 use Rattle.jzon.specs.Located.{located_text}
 use Rattle.jzon.specs.declared.located.LocatedError.{LocatedError}
 
--- Whether it is shown by its escape: control characters, and those below U+10000 that aren't seen (a space is), end a
--- line, or turn the direction of what follows.
-abbrev pub is_hidden : ℕ → Bool
-is_hidden c =
+-- Whether it is a character below U+10000 that is hidden: a control character, or one that isn't seen (a space is),
+-- ends a line, or turns the direction of what follows.
+abbrev pub is_hidden_unit : ℕ → Bool
+is_hidden_unit c =
     nat_lt c 32 || (nat_le 127 c && nat_lt c 160) || (c == 173) || (c == 847) || (c == 1564)
     || (nat_le 4447 c && nat_le c 4448) || (nat_le 6068 c && nat_le c 6069) || (nat_le 6155 c && nat_le c 6159)
     || (nat_le 8203 c && nat_le c 8207) || (nat_le 8232 c && nat_le c 8238) || (nat_le 8288 c && nat_le c 8303)
@@ -34,6 +34,10 @@ is_hidden_pair c =
     (nat_le 78896 c && nat_le c 78911) || (nat_le 113824 c && nat_le c 113827) || (nat_le 119155 c && nat_le c 119162)
     || (nat_le 917504 c && nat_le c 921599)
 
+-- whether it is shown by its escape
+abbrev pub is_hidden : ℕ → Bool
+is_hidden c = is_hidden_unit c || is_hidden_pair c
+
 -- the escapes of such a character's two surrogates
 abbrev pub pair_text : ℕ → List ℕ
 pair_text c = escape_text (55296 + (c - 65536) / 1024) ++ escape_text (56320 + c % 1024)
@@ -42,7 +46,7 @@ pair_text c = escape_text (55296 + (c - 65536) / 1024) ++ escape_text (56320 + c
 abbrev pub shown_char : ℕ → List ℕ
 shown_char c = if c == 34 then codes "\\\"" else (if c == 92 then codes "\\\\" else (if c == 10 then codes "\\n" else
     (if c == 13 then codes "\\r" else (if c == 9 then codes "\\t" else
-    (if is_hidden c then escape_text c else (if is_hidden_pair c then pair_text c else encode_utf8 c))))))
+    (if is_hidden_unit c then escape_text c else (if is_hidden_pair c then pair_text c else encode_utf8 c))))))
 
 -- a text with such escapes
 abbrev pub shown_text : List ℕ → List ℕ
@@ -75,18 +79,14 @@ abbrev pub fitted : ℕ → ℕ → ℕ → List ℕ → List ℕ
 fitted n front back bytes =
     if nat_le (length (shown_text bytes)) n then shown_text bytes else cut_text front back bytes
 
--- a token or a key: 40 characters and 240 bytes at most, and dots
+-- a token or a key: 40 characters and 456 bytes at most, and dots
 abbrev pub token_shown : List ℕ → List ℕ
-token_shown bytes = cut_text (min (fitting 240 bytes) 40) 0 bytes
-
--- whether it is no hidden character
-abbrev pub is_seen : ℕ → Bool
-is_seen c = not (is_hidden c) && not (is_hidden_pair c)
+token_shown bytes = cut_text (min (fitting 456 bytes) 40) 0 bytes
 
 -- words of a program: as they are, or, if they take more than 200 bytes or a character is hidden, escaped: 200 bytes at
 -- most, and dots
 abbrev pub words_shown : List ℕ → List ℕ
-words_shown bytes = if nat_le (length bytes) 200 && list_all is_seen (chars bytes) then bytes
+words_shown bytes = if nat_le (length bytes) 200 && not (list_any is_hidden (chars bytes)) then bytes
     else fitted 200 (fitting 200 bytes) 0 bytes
 
 -- a pointer: of one that takes more than 200 bytes at most 100 of its beginning, and of its end

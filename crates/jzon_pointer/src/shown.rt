@@ -3,11 +3,11 @@
 //! (`\uXXXX`; above U+FFFF two of these, for surrogates). Where bytes bound the characters shown,
 //! each counts as wide as the widest.
 
-ghost use Rattle.std.specs.Prelude.{◌≡◌, ◌<◌, ◌≤◌, ◌-◌, ◌^◌, Some, chars, false, length, map, min, nat_le, true, ◌&&◌};
+ghost use Rattle.std.specs.Prelude.{◌≡◌, ◌<◌, ◌≤◌, ◌-◌, ◌^◌, Some, chars, false, length, map, min, nat_le, not, true, ◌&&◌};
 ghost use Rattle.std.specs.Char.{digit_char};
 ghost use Rattle.std.specs.Fmt.{WritesOnOk};
-ghost use Rattle.std.specs.List.{list_all};
-ghost use Rattle.jzon_pointer.specs.Shown.{byte_text, cut_text, escape_text, fitted, is_hidden, is_hidden_pair, is_seen, name_shown, names_text, others_text, pair_text, piece, place_text, pointer_shown, shown_char, shown_text, text_error_text, token_shown, widest, words_shown};
+ghost use Rattle.std.specs.List.{list_any};
+ghost use Rattle.jzon_pointer.specs.Shown.{byte_text, cut_text, escape_text, fitted, is_hidden, is_hidden_pair, is_hidden_unit, name_shown, names_text, others_text, pair_text, piece, place_text, pointer_shown, shown_char, shown_text, text_error_text, token_shown, widest, words_shown};
 
 use jzon::{Error, LocatedError};
 use std::fmt;
@@ -29,7 +29,7 @@ impl fmt::Display for ShownPointer<'_> {
     }
 }
 
-/// A token or a key in a message: escaped, and after 40 characters, or 240 bytes, `..`.
+/// A token or a key in a message: escaped, and after 40 characters, or 456 bytes, `..`.
 #[derive(Clone, Copy)]
 pub struct ShownToken<'a>(pub &'a str);
 
@@ -37,7 +37,7 @@ impl fmt::Display for ShownToken<'_> {
     ghost output = { λ t. Some (token_shown t.0.now) };
 
     fn fmt<W: fmt::Write>(&self, f: &mut fmt::Formatter<W>) -> fmt::Result {
-        let room = 240 / widest(self.0);
+        let room = 456 / widest(self.0);
         show_cut(f, self.0, room.min(40), 0)
     }
 }
@@ -60,23 +60,16 @@ impl fmt::Display for ShownWords<'_> {
 
 /// Whether a text has at most 200 bytes, and no hidden character.
 fn is_line(text: &str) -> bool
-    ensures { result ≡ (nat_le (length text.now) 200 && list_all is_seen (chars text.now)) }
+    ensures { result ≡ (nat_le (length text.now) 200 && not (list_any is_hidden (chars text.now))) }
 {
-    text.len() <= 200 && are_seen(text)
+    text.len() <= 200 && !has_hidden(text)
 }
 
-/// Whether no character of a text is hidden.
-fn are_seen(text: &str) -> bool
-    ensures { result ≡ list_all is_seen (chars text.now) }
+/// Whether a character of a text is hidden.
+fn has_hidden(text: &str) -> bool
+    ensures { result ≡ list_any is_hidden (chars text.now) }
 {
-    text.chars().all(|ch| is_seen(ch))
-}
-
-/// Whether a character isn't hidden.
-fn is_seen(ch: char) -> bool
-    ensures { result ≡ is_seen ch }
-{
-    !is_hidden(ch) && !is_hidden_pair(ch)
+    text.chars().any(|ch| is_hidden(ch))
 }
 
 /// A pointer, escaped, and cut in the middle if it takes more than 200 bytes.
@@ -105,7 +98,7 @@ fn width(ch: char) -> usize
 {
     match ch {
         '"' | '\\' | '\n' | '\r' | '\t' => 2,
-        _ if is_hidden(ch) => 6,
+        _ if is_hidden_unit(ch) => 6,
         _ if is_hidden_pair(ch) => 12,
         _ => ch.len_utf8(),
     }
@@ -231,15 +224,22 @@ pub(crate) fn show_char<W: fmt::Write>(f: &mut fmt::Formatter<W>, ch: char) -> f
         '\n' => f.write_str("\\n"),
         '\r' => f.write_str("\\r"),
         '\t' => f.write_str("\\t"),
-        _ if is_hidden(ch) => show_escape(f, u32::from(ch)),
+        _ if is_hidden_unit(ch) => show_escape(f, u32::from(ch)),
         _ if is_hidden_pair(ch) => show_pair(f, u32::from(ch)),
         _ => f.write_char(ch),
     }
 }
 
-/// Whether a character up to U+FFFF is hidden.
+/// Whether a character is hidden: it is shown by its escape.
 pub fn is_hidden(ch: char) -> bool
-    ensures hidden { result ≡ is_hidden ch }
+    ensures { result ≡ is_hidden ch }
+{
+    is_hidden_unit(ch) || is_hidden_pair(ch)
+}
+
+/// Whether a character up to U+FFFF, of one unit of UTF-16, is hidden.
+fn is_hidden_unit(ch: char) -> bool
+    ensures hidden { result ≡ is_hidden_unit ch }
     ensures small { result ≡ true → ch < 65536 }
 {
     match ch {
@@ -252,7 +252,7 @@ pub fn is_hidden(ch: char) -> bool
     }
 }
 
-/// Whether a character above U+FFFF is hidden: a format control of hieroglyphs, of shorthand or of
+/// Whether a character above U+FFFF, of a pair of units, is hidden: a format control of hieroglyphs, of shorthand or of
 /// music, a tag, a variation selector, or one of U+E0000 to U+E0FFF that is unassigned.
 fn is_hidden_pair(ch: char) -> bool
     ensures hidden { result ≡ is_hidden_pair ch }

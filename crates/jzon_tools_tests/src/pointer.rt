@@ -322,9 +322,24 @@ fn cuts_long_pointers(rt: HostRuntime) -> Tested {
     expect_nothing(&rt, "null", path, words.as_str())
 }
 
-/// A message has 40 characters of a token.
+/// What a tag of U+E0041 is shown as.
+const TAG: &str = "\\udb40\\udc41";
+
+/// A message has 40 characters of a token, and of the widest 38.
 #[test]
 fn cuts_long_tokens(rt: HostRuntime) -> Tested {
+    let path = joined(rt.alloc(), &[("/", 1), ("\u{e0041}", 38)])?;
+    let parts = &[
+        ("/", 1),
+        (TAG, 7),
+        ("..", 1),
+        (TAG, 8),
+        (": the whole value has no key \"", 1),
+        (TAG, 38),
+        ("\"", 1),
+    ];
+    let words = joined(rt.alloc(), parts)?;
+    expect_nothing(&rt, "{}", path.as_str(), words.as_str())?;
     let path = joined(rt.alloc(), &[("/", 1), ("c", 41)])?;
     let parts = &[
         (path.as_str(), 1),

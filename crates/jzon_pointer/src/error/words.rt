@@ -61,7 +61,7 @@ pub fn show_position<W: fmt::Write>(
     }
 }
 
-/// An error without operation, pointer and place: one line of at most 600 bytes.
+/// An error without operation, pointer and place: one line of at most 720 bytes.
 #[derive(Clone, Copy)]
 pub struct Words<'a> {
     pub(super) error: &'a Error,

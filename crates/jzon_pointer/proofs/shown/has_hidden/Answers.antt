@@ -1,0 +1,11 @@
+use borrow.Author.Tests.{tests}
+use Rattle.std.proofs.Common.{rules}
+use Rattle.std.proofs.lemmas.Iterator.{YieldsList-from_chars}
+use Rattle.std.proofs.lemmas.Iterator.Search.{any_from_yields_List}
+use Rattle.jzon_pointer.specs.Shown.{is_hidden}
+use Rattle.jzon_pointer.proofs.shown.has_hidden.Goals as goal
+
+pub returns : goal.returns
+returns c =
+    any_from_yields_List is_hidden _ _ _ c.any.ensures.ran (YieldsList-from_chars c.args.text.now c.utf8.text cc)
+    (λ x b q k. search (rules, tests))
