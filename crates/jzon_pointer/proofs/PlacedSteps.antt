@@ -1,6 +1,7 @@
 -- An error stands where the value is, or the key, that its own pointer names.
 use Rattle.std.proofs.Common.{◌≡◌, ◌≢◌, ℕ, suc, List, [], ◌∷◌, ◌++◌, Option, None, Some, Bor, chars, refl, sym, ap, ◌∙◌, subst, arith}
-use Rattle.std.specs.Prelude.{IfOk, Result, Err, Ok}
+use Rattle.std.specs.Prelude.{IfOk, Result, Err, Ok, true}
+use Rattle.std.specs.Option.{is_some}
 use Rattle.jzon.specs.Error as text
 use Rattle.jzon.specs.Fault.{Parses}
 use Rattle.jzon.specs.Grammar.{Document}
@@ -9,7 +10,7 @@ use Rattle.jzon.specs.declared.place.Place.{Place}
 use Rattle.jzon_pointer.specs.Errors.{member_of, operation_of, place_of, pointer_of, what_of, Becomes, Says}
 use Rattle.jzon_pointer.specs.Escaped.{escaped}
 use Rattle.jzon_pointer.specs.Locate.{IsPlaceOf, Named, pointed, value_text}
-use Rattle.jzon_pointer.specs.Placed.{IsPlaceBy, IsPlacedBy, StandsAt}
+use Rattle.jzon_pointer.specs.Placed.{IsFoundWhole, IsPlaceBy, IsPlacedBy, StandsAt}
 use Rattle.jzon_pointer.specs.declared.error.Error.{Error}
 use Rattle.jzon_pointer.specs.declared.error.What.{What}
 use Rattle.jzon_pointer.specs.declared.error.What.TheVariants as what
@@ -91,6 +92,17 @@ module _ (r : Reading) (bytes : List ℕ) where
   value-place w p (Ok None) m u f = tt
   value-place w p (Ok (Some at)) m u f = λ d parses. value_by w p at m u d (f d parses)
 
+  found_by : (part : Named → List ℕ) (found : Option Place) (d : Document) (p : List ℕ) → p ≡ []
+      → IsPlaceOf bytes part found (pointed d p) → is_some found ≡ true
+  found_by part (Some at) d p is h = refl
+  found_by part None d p is h = absurd (subst (λ q. IsPlaceOf bytes part None (pointed d q)) is h)
+
+  -- what is found at a pointer that is empty if p is has a place if p is
+  pub found-whole : (part : Named → List ℕ) (p a : List ℕ) (o : Result (Option Place) text.Error) → (p ≡ [] → a ≡ [])
+      → IfOk o (λ found. Found part found a) → IfOk o (IsFoundWhole r bytes p)
+  found-whole part p a (Err e) empty f = tt
+  found-whole part p a (Ok found) empty f = λ is d parses. found_by part found d a (empty is) (f d parses)
+
 -- ---- the error with a place
 
 placed_by : (r : Reading) (bytes : List ℕ) (e f : Error) (at : Option Place) (o : Option What) → what_of e ≡ o
@@ -111,4 +123,4 @@ pub placed : (r : Reading) (bytes : List ℕ) (e f : Error) (at : Option Place)
     → IsPlaceBy r bytes (what_of e) (pointer_of e) at → IsPlacedBy r bytes f
 placed r bytes e f at b h = placed_by r bytes e f at (what_of e) refl b h
 
-pub ruleset placing = (placed, no-place, missing-place, unknown-place, value-place)
+pub ruleset placing = (placed, no-place, missing-place, unknown-place, value-place, found-whole)

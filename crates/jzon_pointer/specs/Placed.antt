@@ -1,5 +1,6 @@
 -- Where in a text an error stands that says what went wrong at a pointer.
-use Rattle.std.specs.Prelude.{◌≡◌, ℕ, IfSome, List, ◌∷◌, ◌++◌, Option, Some, chars}
+use Rattle.std.specs.Prelude.{◌≡◌, ℕ, IfSome, List, [], ◌∷◌, ◌++◌, Option, Some, chars, true}
+use Rattle.std.specs.Option.{is_some}
 use Rattle.jzon.specs.Fault.{Parses}
 use Rattle.jzon.specs.Grammar.{Document}
 use Rattle.jzon.specs.Reading.{Reading}
@@ -23,6 +24,10 @@ StandsAt bytes d w p at = IsPlaceOf bytes value_text (Some at) (pointed d p)
 abbrev pub IsPlaceBy : Reading → List ℕ → Option What → List ℕ → Option Place → Type 0
 IsPlaceBy r bytes what p place =
     IfSome what (λ w. IfSome place (λ at. (d : Document) → Parses r (chars bytes) d → StandsAt bytes d w p at))
+
+-- the whole value of a text that parses has a place
+abbrev pub IsFoundWhole : Reading → List ℕ → List ℕ → Option Place → Type 0
+IsFoundWhole r bytes p place = p ≡ [] → (d : Document) → Parses r (chars bytes) d → is_some place ≡ true
 
 -- the error's place, if it has one, is that of what its own pointer names
 abbrev pub IsPlacedBy : Reading → List ℕ → Error → Type 0

@@ -1,10 +1,10 @@
 //! An error with its place in the text of which the value was read.
 
-ghost use Rattle.std.specs.Prelude.{◌≡◌, ◌∷◌, ◌++◌, ⊤, ℕ, IfOk, IfSome, List, MatchOption, Some};
+ghost use Rattle.std.specs.Prelude.{◌≡◌, ◌∷◌, ◌++◌, [], ⊤, ℕ, IfOk, IfSome, IsOk, List, MatchOption, Some};
 ghost use Rattle.jzon_pointer.specs.Errors.{member_of, operation_of, place_of, pointer_of, what_of, Becomes};
 ghost use Rattle.jzon_pointer.specs.Escaped.{escaped};
 ghost use Rattle.jzon_pointer.specs.Locate.{IsPlaceIn};
-ghost use Rattle.jzon_pointer.specs.Placed.{IsPlaceBy, IsPlacedBy};
+ghost use Rattle.jzon_pointer.specs.Placed.{IsFoundWhole, IsPlaceBy, IsPlacedBy};
 
 use super::{Error, What};
 use crate::locate;
@@ -14,7 +14,8 @@ use std::alloc::Global;
 impl Error {
     /// This error with its place in the text of which the value was read by this reading. That of a
     /// missing entry is its object's, and that of an unknown one its key's. There is none if the
-    /// pointer names nothing, or memory runs out meanwhile. An error without `what` stays as it is.
+    /// pointer names nothing, or memory runs out meanwhile, which the whole value's place doesn't
+    /// need. An error without `what` stays as it is.
     ///
     /// ```rust
     /// let placed = error.in_text(rt.alloc(), REPEATED, &Reading::USUAL);
@@ -26,6 +27,8 @@ impl Error {
         ensures place { MatchOption (what_of self) ⊤ (λ _. IfSome (place_of result)
             (IsPlaceIn text.now)) }
         ensures named { IsPlacedBy reading.now text.now result }
+        ensures whole { MatchOption (what_of self) ⊤ (λ _.
+            IsFoundWhole reading.now text.now (pointer_of self) (place_of result)) }
     {
         let place = place_in(alloc, &self, text, reading);
         self.at_place(place)
@@ -37,6 +40,8 @@ impl Error {
 fn place_in(alloc: Global, error: &Error, text: &str, reading: &Reading) -> Option<Place>
     ensures place { IfSome result (IsPlaceIn text.now) }
     ensures named { IsPlaceBy reading.now text.now (what_of error.now) (pointer_of error.now) result }
+    ensures whole { MatchOption (what_of error.now) ⊤ (λ _.
+        IsFoundWhole reading.now text.now (pointer_of error.now) result) }
 {
     let what = error.what()?;
     match place_at(alloc, what, error.pointer(), text, reading) {
@@ -57,6 +62,8 @@ fn place_at(
 ) -> jzon::Result<Option<Place>>
     ensures place { IfOk result (λ found. IfSome found (IsPlaceIn text.now)) }
     ensures named { IfOk result (IsPlaceBy reading.now text.now (Some what.now) pointer.now) }
+    ensures whole { IfOk result (IsFoundWhole reading.now text.now pointer.now) }
+    ensures free { pointer.now ≡ [] → IsOk result }
 {
     match what {
         What::Missing(_) => locate::value_in(alloc, text, parent(pointer), reading),
@@ -68,7 +75,8 @@ fn place_at(
 /// The pointer without its last token, or all of one without `/`. The token of a key has none: it
 /// is `~1` there.
 fn parent(pointer: &str) -> &str
-    ensures { (q k : List ℕ) → pointer.now ≡ q ++ 47 ∷ escaped k → result.now ≡ q }
+    ensures parent { (q k : List ℕ) → pointer.now ≡ q ++ 47 ∷ escaped k → result.now ≡ q }
+    ensures whole { pointer.now ≡ [] → result.now ≡ [] }
 {
     match pointer.rsplit_once('/') {
         Some((object, _key)) => object,
