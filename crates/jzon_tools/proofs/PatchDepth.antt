@@ -6,12 +6,12 @@ use Rattle.std.proofs.lemmas.Bool.Decides.{nat_tests}
 use Rattle.std.proofs.lemmas.Option.{none-some, same_Some}
 use Rattle.std.specs.Option.{option_map_or}
 use Rattle.std.specs.Str.{bytes_eq}
-use Rattle.jzon.specs.Same.{same}
 use Rattle.jzon.specs.Value.{Value, nest}
 use Rattle.jzon_pointer.specs.Pointer.{updated_at, removed_at, slashes}
-use Rattle.jzon_tools.specs.Patch.{value_of, entry_of, added_at, moved_at, is_below, is_deeper, deepened_at, tested_at, operand, op_of, operated, operated_by, text_at, depth_by, depth_in}
+use Rattle.jzon_tools.specs.Patch.{value_of, entry_of, added_at, moved_at, is_below, is_deeper, deepened_at, operand, op_of, operated, operated_by, text_at, depth_by, depth_in}
 use Rattle.jzon_tools.specs.declared.patch.Op.{Op}
 use Rattle.jzon_tools.specs.declared.patch.Op.TheVariants.{Add, Remove, Replace, Move, Copy, Test}
+use Rattle.jzon_tools.proofs.PatchSteps.{entry-is_value, kept-same, tested-same}
 use Rattle.jzon_tools.proofs.PointerDepth.{updated_at-nest, inserted_at-nest, removed_at-nest, value-nest}
 
 -- ---- operations
@@ -20,14 +20,6 @@ added_at-nest : (h : ℕ) (w v : Value) (path : List ℕ) (u : Value) → slashe
     → added_at w v path ≡ Some u → nest u ≤ h
 added_at-nest h w v [] u room within is = subst (λ x. nest x ≤ h) (same_Some w u is) (omega arith)
 added_at-nest h w v (c ∷ cs) u room within is = inserted_at-nest h w v (c ∷ cs) u room within is
-
-entry-is_value : (v w : Value) (path : List ℕ) → entry_of v path ≡ Some w → value_of v path ≡ Some w
-entry-is_value v w [] h = absurd (none-some w h)
-entry-is_value v w (c ∷ cs) h = h
-
-kept-nest : (h : ℕ) (v u : Value) (o : Option Value) → nest v ≤ h → option_map (λ _. v) o ≡ Some u → nest u ≤ h
-kept-nest h v u None within is = absurd (none-some u is)
-kept-nest h v u (Some x) within is = subst (λ y. nest y ≤ h) (same_Some v u is) within
 
 put-nest : (h : ℕ) (w : Value) (path : List ℕ) (u : Value) (x : Option Value) → slashes path + nest w ≤ h
     → ((y : Value) → x ≡ Some y → nest y ≤ h) → option_and_then (λ y. added_at w y path) x ≡ Some u → nest u ≤ h
@@ -49,7 +41,8 @@ moved-nest_by : (h : ℕ) (v : Value) (from path : List ℕ) (u : Value) (b c : 
     → (if b then option_map (λ _. v) (value_of v from) else (if c then None
     else option_and_then (λ x. option_and_then (λ y. added_at x y path) (removed_at v from)) (entry_of v from))) ≡ Some u
     → nest u ≤ h
-moved-nest_by h v from path u true c room within is = kept-nest h v u (value_of v from) within is
+moved-nest_by h v from path u true c room within is =
+    subst (λ x. nest x ≤ h) (kept-same v u (value_of v from) is) within
 moved-nest_by h v from path u false true room within is = absurd (none-some u is)
 moved-nest_by h v from path u false false room within is = taken-nest h v from path u (entry_of v from) refl room within is
 
@@ -58,15 +51,6 @@ moved-nest : (h : ℕ) (v : Value) (from path : List ℕ) (u : Value)
     → moved_at v from path ≡ Some u → nest u ≤ h
 moved-nest h v from path u room within is =
     moved-nest_by h v from path u (bytes_eq from path) (is_below path from) room within is
-
-passed-nest : (h : ℕ) (v u : Value) (b : Bool) → nest v ≤ h → (if b then Some v else None) ≡ Some u → nest u ≤ h
-passed-nest h v u true within is = subst (λ y. nest y ≤ h) (same_Some v u is) within
-passed-nest h v u false within is = absurd (none-some u is)
-
-tested-nest : (h : ℕ) (w v u : Value) (o : Option Value) → nest v ≤ h
-    → option_and_then (λ x. if same x w then Some v else None) o ≡ Some u → nest u ≤ h
-tested-nest h w v u None within is = absurd (none-some u is)
-tested-nest h w v u (Some x) within is = passed-nest h v u (same x w) within is
 
 -- what an operation places, if it does so, at a place of its own
 placing-nest : (h : ℕ) (path : List ℕ) (u : Value) (o : Option Value) (f : Value → Option Value)
@@ -105,11 +89,6 @@ copying-nest h v path u (Some from) room within is =
     placing-nest h path u (value_of v from) (λ w. added_at w v path) room
     (λ w r e. added_at-nest h w v path u r within e) is
 
-testing-nest : (h : ℕ) (v : Value) (path : List ℕ) (u : Value) (w : Option Value) → nest v ≤ h
-    → option_and_then (λ x. tested_at x v path) w ≡ Some u → nest u ≤ h
-testing-nest h v path u None within is = absurd (none-some u is)
-testing-nest h v path u (Some w) within is = tested-nest h w v u (value_of v path) within is
-
 operated_by-nest : (h : ℕ) (o : Op) (path : List ℕ) (op v u : Value) → depth_by o path op v ≤ h → nest v ≤ h
     → operated_by o path op v ≡ Some u → nest u ≤ h
 operated_by-nest h Add path op v u room within is =
@@ -123,7 +102,8 @@ operated_by-nest h Move path op v u room within is =
     moving-nest h v path u (text_at (codes "from") op) room within is
 operated_by-nest h Copy path op v u room within is =
     copying-nest h v path u (text_at (codes "from") op) room within is
-operated_by-nest h Test path op v u room within is = testing-nest h v path u (operand op) within is
+operated_by-nest h Test path op v u room within is =
+    subst (λ x. nest x ≤ h) (tested-same v u path (operand op) is) within
 
 operated-nest_path : (h : ℕ) (o : Op) (op v u : Value) (path : Option (List ℕ))
     → option_map_or (λ p. depth_by o p op v) path 0 ≤ h → nest v ≤ h

@@ -1,14 +1,17 @@
--- The steps of a patch: where a pointer names nothing, nothing can be changed.
+-- The steps of a patch: where a pointer names nothing, nothing can be changed, and what leaves the value as it was.
 use Rattle.std.proofs.Common.{◌≡◌, ◌⊎◌, inl, inr, ℕ, suc, ◌+◌, length, List, [], ◌∷◌, Option, None, Some, option_map, option_and_then, Ok, Err}
-use Rattle.std.proofs.Common.{refl, ap}
+use Rattle.std.proofs.Common.{refl, ap, if◌then◌else◌}
+use Rattle.std.proofs.lemmas.Option.{none-some, same_Some, option_and_then_some, cond_some}
 use Rattle.std.specs.Option.{ok_or}
 use Rattle.jzon.specs.PairList.{find, cut}
 use Rattle.std.proofs.Common.{slice_get}
 use Rattle.std.specs.List.{remove}
+use Rattle.jzon.specs.Same.{same}
 use Rattle.jzon.specs.Value.{Value, null, boolean, text, number, array, object, values_of, pairs_of, list_of_values, list_of_pairs}
 use Rattle.jzon_pointer.specs.Pointer.{index_named, token_key, child_of, with_child, missing, tokens_of, found, and_then, value_at, entry_at, updated, updated_at, changed, without, removed_at}
 use Rattle.jzon_pointer.specs.declared.pointer.PointerError.{PointerError}
 use Rattle.jzon_pointer.specs.declared.pointer.PointerError.TheVariants.{NoSlash}
+use Rattle.jzon_tools.specs.Patch.{value_of, entry_of, tested_at}
 use Rattle.jzon_tools.specs.declared.edit.Refused.{Refused}
 use Rattle.jzon_tools.specs.declared.edit.Refused.TheVariants.{Lost, TooMany}
 
@@ -94,3 +97,20 @@ entry-nowhere v (c ∷ cs) e h = h
 pub whole-found : (v : Value) (path : List ℕ) (e : PointerError) → value_at v path ≡ Err e → path ≡ [] → ⊥
 whole-found v [] e h none = cc
 whole-found v (c ∷ cs) e h none = cc
+
+-- ---- what leaves the value as it was
+
+pub entry-is_value : (v w : Value) (path : List ℕ) → entry_of v path ≡ Some w → value_of v path ≡ Some w
+entry-is_value v w [] h = absurd (none-some w h)
+entry-is_value v w (c ∷ cs) h = h
+
+pub kept-same : (v u : Value) (o : Option Value) → option_map (λ _. v) o ≡ Some u → v ≡ u
+kept-same v u None is = absurd (none-some u is)
+kept-same v u (Some x) is = same_Some v u is
+
+pub tested-same : (v u : Value) (path : List ℕ) (o : Option Value)
+    → option_and_then (λ w. tested_at w v path) o ≡ Some u → v ≡ u
+tested-same v u path o is =
+    option_and_then_some (λ w. tested_at w v path) o u is
+    (λ w at e. option_and_then_some (λ x. if same x w then Some v else None) (value_of v path) u e
+    (λ x there f. (cond_some (same x w) v u f).1))
