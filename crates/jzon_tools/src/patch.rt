@@ -80,7 +80,8 @@ enum Op {
 
 /// Applies a patch (RFC 6902) within the usual limits: its operations in their order, or none after
 /// an error. Clones the value if the patch has a move, or if an operation other than a test isn't
-/// the last.
+/// the last. After an `Ok` the value weighs at most what it, the patch and the limit of copies
+/// weighed together.
 ///
 /// ```rust
 /// patch::apply(alloc, &mut config, &patch)?;
@@ -90,6 +91,8 @@ pub fn apply(alloc: Global, value: &mut JsonValue, patch: &JsonValue) -> Result<
     ensures within { OnOk result (applied_within usual (view patch.now) (view value.old)
         ≡ Some (view value.new)) }
     ensures depth { OnOk result (nest (view value.new) ≤ max 512 (nest (view value.old))) }
+    ensures weight { OnOk result (weight (view value.new)
+        ≤ weight (view value.old) + weight (view patch.now) + usual.copied) }
     ensures err { OnErr result (view value.new ≡ view value.old) }
     ensures error { IfErr result (IsErrorOf usual (view patch.now) (view value.old)) }
 {
@@ -98,7 +101,8 @@ pub fn apply(alloc: Global, value: &mut JsonValue, patch: &JsonValue) -> Result<
 
 /// Applies a patch within these limits. An operation that passes one can't be done, and the cause is
 /// `TooDeep` or `TooLarge`. What an operation clones is walked before, and of what is moved only
-/// what gets to a deeper place. What it shifts is counted by the lengths of the containers.
+/// what gets to a deeper place. What it shifts is counted by the lengths of the containers. After an
+/// `Ok` the value weighs at most what it, the patch and the limit of copies weighed together.
 ///
 /// ```rust
 /// let limits = Limits {
@@ -118,6 +122,8 @@ pub fn apply_within(
         ≡ Some (view value.new)) }
     ensures depth { OnOk result
         (nest (view value.new) ≤ max limits.now.depth (nest (view value.old))) }
+    ensures weight { OnOk result (weight (view value.new)
+        ≤ weight (view value.old) + weight (view patch.now) + limits.now.copied) }
     ensures err { OnErr result (view value.new ≡ view value.old) }
     ensures error { IfErr result (IsErrorOf limits.now (view patch.now) (view value.old)) }
 {

@@ -5,6 +5,7 @@ use Rattle.jzon.specs.View.{view, view_values}
 use Rattle.jzon.proofs.ValueLaws.{view-Array}
 use Rattle.jzon_tools.specs.Patch.{applied, applied_within, each_within, undone_at}
 use Rattle.jzon_tools.proofs.PatchRuns.{left-seen, all-next, within-next, first-next, depth-next, done-all, done-within, backup-next, none-before}
+use Rattle.jzon_tools.proofs.PatchWeight.{applied-weight}
 use Rattle.jzon_tools.proofs.patch.apply_within.Goals as goal
 
 pub loop-number-preserved : goal.loop-number-preserved
@@ -56,3 +57,8 @@ returns-clause-within c =
     ap (λ p. applied_within c.args.limits.now p (view c.args.value.now)) (ap view c.in-Array.is ∙ view-Array ops)
     ∙ done-within c.args.limits.now c.loop-number.left ops.items c.loop-number.number (view c.args.value.now)
     (view c.loop-number.value) (omega arith) c.loop-number.invariant.within
+
+pub returns-clause-weight : goal.returns-clause-weight
+returns-clause-weight c =
+    applied-weight c.args.limits.now (view c.args.patch.now) (view c.args.value.now) (view c.loop-number.value)
+    (returns-clause-within c)
