@@ -1,12 +1,11 @@
 //! What is wrong where a reader stands: in `frame`, of which `begun` members were begun, before `due`.
 
 use crate::fault::{Fault, Part};
-use crate::tree::{Container, Due, Frame, TreeFormat, case_bit};
+use crate::tree::{Container, Due, Frame, TreeFormat};
 use jzon::JsonValue;
 use jzon_pointer::error::{Expected, What, found_in, found_text};
-use serde::{Case, Format, Name, NameKind};
+use serde::{Format, Name, NameKind};
 use std::alloc::{AllocError, Global};
-use std::result::Result;
 
 impl<'v> TreeFormat<'v> {
     /// The frame around one: `None` of the whole.
@@ -84,24 +83,16 @@ impl<'v> TreeFormat<'v> {
         self.custom("the type's reader asks for what isn't there")
     }
 
-    /// The key of a field of the object that ended last, if the cases of its names spell it one way.
+    /// The key of a field of the object that was just left, if the cases of its names spell it one way.
     pub(crate) fn key_of(&self, name: &str) -> Result<Option<String>, AllocError> {
-        let mut key: Option<String> = None;
-        if !self.is_spelled_here() {
+        let mut cases = self.frame.cases.iter().flatten();
+        let Some(case) = cases.next() else {
             return Ok(None);
-        }
-        for case in CASES {
-            if self.spelling.cases & case_bit(*case) == 0 {
-                continue;
-            }
-            let mut spelled = String::new(self.alloc);
-            case.append(NameKind::Field, name, &mut spelled)?;
-            if key.as_ref().is_some_and(|before| *before != spelled) {
-                return Ok(None);
-            }
-            key = Some(spelled);
-        }
-        Ok(key)
+        };
+        let mut key = String::new(self.alloc);
+        case.append(NameKind::Field, name, &mut key)?;
+        let is_known = cases.all(|case| case.matches(NameKind::Field, name, key.as_str()));
+        Ok(is_known.then_some(key))
     }
 
     /// Keeps for `unknown_variant` the error that a string (nothing is due then) or a key names no
@@ -116,18 +107,6 @@ impl<'v> TreeFormat<'v> {
         self.unknown = Some(self.fault(part, words.map(What::Custom)));
     }
 }
-
-const CASES: &[Case] = &[
-    Case::AsIs,
-    Case::Lower,
-    Case::Upper,
-    Case::Pascal,
-    Case::Camel,
-    Case::Snake,
-    Case::ScreamingSnake,
-    Case::Kebab,
-    Case::ScreamingKebab,
-];
 
 /// About how many bytes of names an error shows.
 const NAMES_ROOM: usize = 200;

@@ -12,7 +12,6 @@ use serde::{Case, NameKind, Serializer};
 use std::alloc::{AllocError, Global};
 use std::cell::Cell;
 use std::fmt::{Display, Write};
-use std::result::Result;
 
 /// How many containers may be open, with empty ones, which `parse` doesn't count.
 pub(crate) const MAX_DEPTH: usize = 512;

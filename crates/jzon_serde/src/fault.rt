@@ -7,7 +7,6 @@ use jzon_pointer::error::{Error, What};
 use jzon_pointer::{locate, push_token};
 use std::alloc::{AllocError, AllocFailed, Global};
 use std::fmt::Write;
-use std::result::Result;
 
 /// Why a step failed. It is one pointer, so that a step that succeeds moves none of it.
 #[derive(Clone, Drop)]

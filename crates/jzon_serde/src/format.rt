@@ -11,11 +11,11 @@ use jzon::util::print_dec::number_text;
 use jzon_pointer::error::{Expected, Found, What, may_be_cut};
 use serde::{Format, Kind, Name, NameKind, find};
 use std::alloc::Global;
-use std::result::Result;
+use std::str::FromStr;
 
 impl<'v> TreeFormat<'v> {
     /// The integer of the number due (1e2 is 100). Fails for a fraction, above 64 bits, or if digits
-    /// may have been cut; `expected` words the error.
+    /// may have been cut. What is expected is `SIGNED` or `UNSIGNED`.
     #[inline(never)]
     fn integer(&mut self, expected: &'static str) -> Result<i128, Fault> {
         let Some(number) = self.look()?.as_number() else {
@@ -29,32 +29,20 @@ impl<'v> TreeFormat<'v> {
             }
             // Its digits are followed by zeros: it has no fraction.
             None if number.as_parts().2 > 0 => Err(self.expected(WIDE)),
+            Some(integer) if integer < 0 && expected == UNSIGNED => {
+                Err(self.expected(Expected::Other(UNSIGNED)))
+            }
             integer => self.taken(integer, Expected::Other(expected)),
         }
     }
 
-    #[inline(never)]
-    fn unsigned(&mut self) -> Result<u64, Fault> {
-        let integer = self.integer(UNSIGNED)?;
-        u64::try_from(integer).map_err(|_| self.expected(Expected::Other(UNSIGNED)))
-    }
-
-    /// The integer of a key, if std parsed it and it is plain: or `7` and `07` would be one key of a
-    /// map. One out of range is an error of its own.
-    fn integer_key<T: Drop>(
-        &mut self,
-        key: &str,
-        parsed: Option<T>,
-        expected: &'static str,
-    ) -> Result<T, Fault> {
+    /// The integer of a key. One out of range is an error of its own.
+    fn integer_key<T: FromStr<Err: Drop>>(&mut self, key: &str, expected: &'static str) -> Result<T, Fault> {
         self.asked = Asked::Integer;
-        match parsed {
-            Some(integer) if is_plain(key) => Ok(integer),
-            None if is_integer(key) && (expected == SIGNED || !key.starts_with('-')) => {
-                Err(self.unfit(IN_RANGE))
-            }
-            _ => Err(self.unfit(expected)),
+        if !is_integer(key) || (expected == UNSIGNED && key.starts_with('-')) {
+            return Err(self.unfit(expected));
         }
+        key.parse().map_err(|_| self.unfit(IN_RANGE))
     }
 
     /// The float nearest to the number due, or that a key spells; infinite above its range.
@@ -117,18 +105,13 @@ fn is_of_variants(names: &[Name<'_>]) -> bool {
     first.is_some_and(|name| name.kind == NameKind::Variant)
 }
 
-/// Whether a text that is an integer's has no plus, no zero before other digits, and isn't `-0`.
-fn is_plain(key: &str) -> bool {
+/// Whether a text is an integer's, in the one way to write it: or `7` and `07` would be one key of a map.
+fn is_integer(key: &str) -> bool {
     match key.strip_prefix('-').unwrap_or(key).as_bytes() {
         [b'0'] => key.len() == 1,
-        [first, ..] => matches!(first, b'1'..=b'9'),
-        [] => false,
+        [b'1'..=b'9', digits @ ..] => digits.iter().all(|digit| digit.is_ascii_digit()),
+        _ => false,
     }
-}
-
-/// Whether a text is a plain integer, of any length.
-fn is_integer(key: &str) -> bool {
-    is_plain(key) && key.bytes().skip(1).all(|byte| byte.is_ascii_digit())
 }
 
 impl<'v> Format for TreeFormat<'v> {
@@ -148,41 +131,38 @@ impl<'v> Format for TreeFormat<'v> {
     #[inline(always)]
     fn i64(&mut self, _input: &[u8]) -> Result<i64, Fault> {
         if let Some(key) = self.key() {
-            return self.integer_key(key, key.parse().ok(), SIGNED);
+            return self.integer_key(key, SIGNED);
         }
-        if let Some(integer) = self.look()?.as_i64() {
-            self.due = Due::Nothing;
-            return Ok(integer);
+        match self.look()?.as_i64() {
+            // As 1e2, or an error.
+            None => i64::try_from(self.integer(SIGNED)?).map_err(|_| self.invalid()),
+            integer => self.taken(integer, Expected::Other(SIGNED)),
         }
-        // As 1e2, or an error.
-        i64::try_from(self.integer(SIGNED)?).map_err(|_| self.invalid())
     }
 
     #[inline(always)]
     fn u64(&mut self, _input: &[u8]) -> Result<u64, Fault> {
         if let Some(key) = self.key() {
-            return self.integer_key(key, key.parse().ok(), UNSIGNED);
+            return self.integer_key(key, UNSIGNED);
         }
-        if let Some(integer) = self.look()?.as_u64() {
-            self.due = Due::Nothing;
-            return Ok(integer);
+        match self.look()?.as_u64() {
+            None => u64::try_from(self.integer(UNSIGNED)?).map_err(|_| self.invalid()),
+            integer => self.taken(integer, Expected::Other(UNSIGNED)),
         }
-        // As 1e2, or an error.
-        self.unsigned()
     }
 
     /// Within 64 bits, but a key in full.
     fn i128(&mut self, _input: &[u8]) -> Result<i128, Fault> {
         match self.key() {
-            Some(key) => self.integer_key(key, key.parse().ok(), SIGNED),
+            Some(key) => self.integer_key(key, SIGNED),
             None => self.integer(SIGNED),
         }
     }
 
     fn u128(&mut self, _input: &[u8]) -> Result<u128, Fault> {
         match self.key() {
-            Some(key) => self.integer_key(key, key.parse().ok(), UNSIGNED),
-            None => Ok(u128::from(self.unsigned()?)),
+            Some(key) => self.integer_key(key, UNSIGNED),
+            None => Ok(self.integer(UNSIGNED)?.unsigned_abs()),
         }
     }
 
@@ -321,8 +301,7 @@ impl<'v> Format for TreeFormat<'v> {
         }
     }
 
-    /// Enters a struct's object, or (`true`) an array of its fields. The array has no keys by which
-    /// `missing` could name a field, so it has no spelling.
+    /// Enters a struct's object, or (`true`) an array of its fields.
     #[inline(always)]
     fn begin_struct(&mut self, _input: &[u8]) -> Result<bool, Fault> {
         match self.look()? {
@@ -332,7 +311,6 @@ impl<'v> Format for TreeFormat<'v> {
             }
             JsonValue::Array(items) => {
                 self.enter(Container::Seq(items.as_slice()))?;
-                self.spelling.cases = 0;
                 Ok(true)
             }
             _ => Err(self.expected(Expected::Object)),
@@ -348,7 +326,7 @@ impl<'v> Format for TreeFormat<'v> {
             self.single_entry()?;
         }
         let Some((key, value)) = self.entry()? else {
-            self.note_spelling(names);
+            self.note_cases(names);
             return Ok(None);
         };
         self.due = Due::Value(value);
@@ -396,16 +374,17 @@ impl<'v> Format for TreeFormat<'v> {
             due: self.due,
             frames: self.frames.len(),
             kept: self.kept,
-            spelling: self.spelling,
         };
         self.kept = mark.frames;
         self.asked = Asked::Nothing;
         mark
     }
 
-    /// Goes back to a mark, and drops later ones.
+    /// Goes back to a mark, and drops later ones. The cases stay, if the object is of several structs.
     fn rewind(&mut self, mark: Mark<'v>) {
+        let cases = self.frame.cases;
         self.frame = mark.frame;
+        self.frame.cases = cases;
         self.due = mark.due;
         self.key = None;
         self.kept = mark.frames;
@@ -418,9 +397,9 @@ impl<'v> Format for TreeFormat<'v> {
         self.frames.truncate(self.frame.level.max(mark.kept));
         if self.key.is_none() && !matches!(self.due, Due::Nothing) {
             // Back at the mark: no variant of an untagged enum fitted (`Forms`), or just the entry that
-            // names the variant was read, whose spelling isn't the fields'.
+            // names the variant was read, whose case isn't the fields'.
             self.asked = Asked::Forms;
-            self.spelling = mark.spelling;
+            self.frame = mark.frame;
         }
     }
 

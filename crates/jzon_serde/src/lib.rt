@@ -29,7 +29,6 @@ use serde::{DeserializeOwned, Deserializer, Serialize};
 use sinks::{Text, Tree};
 use std::alloc::Global;
 use std::io::Write;
-use std::result::Result;
 use std::{io, str};
 use tree::TreeFormat;
 pub use wrappers::{Exact, Json};

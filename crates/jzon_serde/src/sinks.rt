@@ -8,7 +8,6 @@ use jzon::object::{Key, Object};
 use jzon::short::{MAX_LEN, Short};
 use std::alloc::Global;
 use std::io;
-use std::result::Result;
 
 /// A value, as far as it came.
 #[derive(Drop)]

@@ -7,7 +7,6 @@ use jzon::object::Object;
 use jzon_pointer::error::Expected;
 use serde::{Case, Name};
 use std::alloc::Global;
-use std::result::Result;
 
 /// What is read, member by member.
 #[derive(Clone, Copy, Drop)]
@@ -34,7 +33,16 @@ pub(crate) struct Frame<'v> {
     pub(crate) begun: usize,
     /// The frame around it is `frames[level - 1]`; 0 for `Whole`.
     pub(crate) level: usize,
+    /// Of the last of these members, if it is an object that was read.
+    pub(crate) cases: Cases,
 }
+
+/// How the names of the structs that an object was read as spell its keys (several with `flatten`):
+/// each case at its own index. By these a missing key is named.
+pub(crate) type Cases = [Option<Case>; 9];
+
+/// Those of what is no struct's object.
+const NO_CASES: Cases = [None; 9];
 
 /// What `rewind` and `release` restore.
 #[derive(Clone, Copy, Drop)]
@@ -44,7 +52,6 @@ pub(crate) struct Mark<'v> {
     /// How many frames there were, and how many were kept before.
     pub(crate) frames: usize,
     pub(crate) kept: usize,
-    pub(crate) spelling: Spelling,
 }
 
 /// What a type asked last of what is due, before it read it: for `invalid`.
@@ -75,21 +82,10 @@ pub(crate) struct TreeFormat<'v> {
     /// The error of the last name that is no variant's.
     pub(crate) unknown: Option<Fault>,
     pub(crate) asked: Asked,
-    pub(crate) spelling: Spelling,
-}
-
-/// How the names of a struct's fields are spelled as keys, by which a missing one is named.
-#[derive(Clone, Copy, Default, Drop)]
-pub(crate) struct Spelling {
-    /// The frame around, as the object ended.
-    pub(crate) level: usize,
-    pub(crate) begun: usize,
-    /// The bit of each case of theirs: none if they aren't known.
-    pub(crate) cases: u16,
 }
 
 impl<'v> TreeFormat<'v> {
-    /// At the value, begun as the one member of `Whole`; so the default `spelling` is of no object.
+    /// At the value, begun as the one member of `Whole`.
     pub(crate) fn new(alloc: Global, value: &'v JsonValue) -> TreeFormat<'v> {
         TreeFormat {
             alloc,
@@ -99,12 +95,12 @@ impl<'v> TreeFormat<'v> {
                 container: Container::Whole(value),
                 begun: 1,
                 level: 0,
+                cases: NO_CASES,
             },
             due: Due::Value(value),
             key: None,
             unknown: None,
             asked: Asked::Nothing,
-            spelling: Spelling::default(),
         }
     }
 
@@ -134,6 +130,7 @@ impl<'v> TreeFormat<'v> {
             container,
             begun: 0,
             level: self.frames.len(),
+            cases: NO_CASES,
         };
         self.due = Due::Nothing;
         Ok(())
@@ -146,10 +143,6 @@ impl<'v> TreeFormat<'v> {
         let below = self.frame.level.saturating_sub(1);
         if let Some(frame) = self.frames.get(below) {
             self.frame = *frame;
-        }
-        // Of an object in the container that is left, it would seem to be of one elsewhere.
-        if self.spelling.level > below {
-            self.spelling.cases = 0;
         }
         self.due = Due::Nothing;
         if self.frames.len() > self.kept {
@@ -175,6 +168,7 @@ impl<'v> TreeFormat<'v> {
     #[inline(always)]
     pub(crate) fn begin_member(&mut self) {
         self.frame.begun = self.frame.begun.saturating_add(1);
+        self.frame.cases = NO_CASES;
         self.asked = Asked::Nothing;
         self.key = None;
     }
@@ -210,33 +204,14 @@ impl<'v> TreeFormat<'v> {
         Some(key)
     }
 
-    /// Keeps the cases of the names by which the object that was just left was read: `frame` is around
-    /// it. Those of a struct read from it before (`flatten`) stay.
+    /// Keeps the cases of the names by which the object that was just left was read.
     #[inline(always)]
-    pub(crate) fn note_spelling(&mut self, names: &[Name<'_>]) {
-        if !self.is_spelled_here() {
-            self.spelling = Spelling {
-                level: self.frame.level,
-                begun: self.frame.begun,
-                cases: 0,
-            };
-        }
+    pub(crate) fn note_cases(&mut self, names: &[Name<'_>]) {
         // A skipped name spells no key.
         for name in names.iter().filter(|name| !name.skipped) {
-            self.spelling.cases |= case_bit(name.case);
+            if let Some(case) = self.frame.cases.get_mut(name.case as usize) {
+                *case = Some(name.case);
+            }
         }
     }
-
-    /// Whether the spelling is of the object just ended.
-    #[inline(always)]
-    pub(crate) fn is_spelled_here(&self) -> bool {
-        let frame = self.frame;
-        self.spelling.level == frame.level && self.spelling.begun == frame.begun
-    }
-}
-
-/// A bit in `Spelling::cases`.
-#[inline(always)]
-pub(crate) fn case_bit(case: Case) -> u16 {
-    1 << case as u16
 }

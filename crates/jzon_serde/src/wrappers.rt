@@ -16,7 +16,6 @@ use serde::{
 use std::alloc::Global;
 use std::fmt::{InlineText, Write};
 use std::ops::Deref;
-use std::result::Result;
 use std::{fmt, str};
 
 /// What `Exact` says before its digits; no type's own words begin so.
