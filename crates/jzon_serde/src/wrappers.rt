@@ -10,9 +10,7 @@ use jzon::number::{NAN, Number};
 use jzon::object::{Key, Object};
 use jzon::short::{MAX_LEN, Short};
 use jzon::util::print_dec::number_text;
-use serde::{
-    Described, Deserialize, DeserializeOwned, Deserializer, Format, Kind, Serialize, Serializer,
-};
+use serde::{Deserialize, Deserializer, Format, Kind, Serialize, Serializer};
 use std::alloc::Global;
 use std::fmt::{InlineText, Write};
 use std::ops::Deref;
@@ -31,16 +29,18 @@ pub(crate) const EXACT: &str = "\0jzon_serde::Exact ";
 ///     more: Option<Json>,
 /// }
 /// ```
-#[derive(Debug, Drop)]
-pub struct Json(JsonValue);
+#[derive(Debug, Drop, Serialize, Deserialize)]
+#[serde(transparent)]
+pub struct Json(#[serde(serialize_with = "send_any", deserialize_with = "fetch_any")] JsonValue);
 
 /// An exact decimal, as a field of a type of `serde`: it is read without rounding, and the calls of
 /// this crate write all of its digits.
 ///
 /// Other formats read the nearest float, and write a float if its shortest text means the number, as up
 /// to 15 digits in a float's range do, and else return an error.
-#[derive(Clone, Copy, Debug, PartialEq, Eq)]
-pub struct Exact(Number);
+#[derive(Clone, Copy, Debug, PartialEq, Eq, Serialize, Deserialize)]
+#[serde(transparent)]
+pub struct Exact(#[serde(serialize_with = "send_exact", deserialize_with = "fetch_exact")] Number);
 
 impl Deref for Json {
     type Target = JsonValue;
@@ -90,29 +90,13 @@ impl fmt::Display for Exact {
     }
 }
 
-impl Described for Exact {}
-
-impl Described for Json {}
-
-impl Serialize for Exact {
-    fn serialize<S: Serializer>(&self, out: &mut S) -> Result<(), S::Error> {
-        if self.0.is_nan() {
-            return Err(out.custom("a decimal that is no number"));
-        }
-        send_number(self.0, out)
+/// Writes a number with the exponent 0, but not `-0`, as an integer. Any other is told as an error's
+/// words, which only `Events` takes. For other formats a float follows that means it, or a list as a
+/// key, which none takes.
+fn send_exact<S: Serializer>(number: &Number, out: &mut S) -> Result<(), S::Error> {
+    if number.is_nan() {
+        return Err(out.custom("a decimal that is no number"));
     }
-}
-
-impl Serialize for Json {
-    fn serialize<S: Serializer>(&self, out: &mut S) -> Result<(), S::Error> {
-        send(&self.0, out, MAX_DEPTH)
-    }
-}
-
-/// Writes a number (no NaN) with the exponent 0, but not `-0`, as an integer. Any other is told as an
-/// error's words, which only `Events` takes. For other formats a float follows that means it, or a list
-/// as a key, which none takes.
-fn send_number<S: Serializer>(number: Number, out: &mut S) -> Result<(), S::Error> {
     let (positive, mantissa, exponent) = number.as_parts();
     if exponent == 0 && positive {
         return out.u64(mantissa);
@@ -125,15 +109,19 @@ fn send_number<S: Serializer>(number: Number, out: &mut S) -> Result<(), S::Erro
         };
     }
     // Nothing is cut: `EXACT` has 19 bytes, and a number at most 29.
-    let words = InlineText::<64>::of(EXACT).and(number, 32);
+    let words = InlineText::<64>::of(EXACT).and(*number, 32);
     let _told = out.custom(words.as_str());
     let float: f64 = fast_float::from_parts(!positive, mantissa, i64::from(exponent));
     let mut buffer = ryu::Buffer::new();
-    if number_of(buffer.format(float)) == Some(number) {
+    if number_of(buffer.format(float)) == Some(*number) {
         return out.f64(float);
     }
     out.begin_key()?;
     out.begin_seq(None)
+}
+
+fn send_any<S: Serializer>(value: &JsonValue, out: &mut S) -> Result<(), S::Error> {
+    send(value, out, MAX_DEPTH)
 }
 
 /// Writes any value, in which at most `depth` containers may be open.
@@ -143,7 +131,7 @@ fn send<S: Serializer>(value: &JsonValue, out: &mut S, depth: usize) -> Result<(
         JsonValue::Null => out.unit(),
         JsonValue::Boolean(truth) => out.bool(*truth),
         JsonValue::Number(number) if number.is_nan() => out.unit(),
-        JsonValue::Number(number) => send_number(*number, out),
+        JsonValue::Number(number) => send_exact(number, out),
         JsonValue::Short(text) => out.str(text.as_str()),
         JsonValue::String(text) => out.str(text.as_str()),
         JsonValue::Array(items) if depth > 0 => send_items(items, out, depth - 1),
@@ -177,27 +165,16 @@ fn send_entries<S: Serializer>(object: &Object, out: &mut S, depth: usize) -> Re
     out.end_map()
 }
 
-impl<'de> Deserialize<'de> for Exact {
-    fn deserialize<F: Format>(
-        alloc: Global,
-        from: &mut Deserializer<'de, '_, F>,
-    ) -> Result<Exact, F::Error> {
-        DeserializeOwned::deserialize_owned(alloc, from)
-    }
-}
-
-impl DeserializeOwned for Exact {
-    fn deserialize_owned<F: Format>(
-        alloc: Global,
-        from: &mut Deserializer<'_, '_, F>,
-    ) -> Result<Exact, F::Error> {
-        match from.peek()? {
-            Kind::Unsigned => Ok(Exact(Number::from(from.u64()?))),
-            Kind::Signed => Ok(Exact(Number::from(from.i64()?))),
-            Kind::Float => Ok(Exact(fetch_number(alloc, from)?)),
-            // A map's key, as a float, or the format's error.
-            _ => Ok(Exact(fetch_float(from)?)),
-        }
+fn fetch_exact<F: Format>(
+    alloc: Global,
+    from: &mut Deserializer<'_, '_, F>,
+) -> Result<Number, F::Error> {
+    match from.peek()? {
+        Kind::Unsigned => Ok(Number::from(from.u64()?)),
+        Kind::Signed => Ok(Number::from(from.i64()?)),
+        Kind::Float => fetch_number(alloc, from),
+        // A map's key, as a float, or the format's error.
+        _ => fetch_float(from),
     }
 }
 
@@ -236,22 +213,11 @@ fn fetch_float<F: Format>(from: &mut Deserializer<'_, '_, F>) -> Result<Number, 
     }
 }
 
-impl<'de> Deserialize<'de> for Json {
-    fn deserialize<F: Format>(
-        alloc: Global,
-        from: &mut Deserializer<'de, '_, F>,
-    ) -> Result<Json, F::Error> {
-        Ok(Json(fetch(alloc, from, MAX_DEPTH)?))
-    }
-}
-
-impl DeserializeOwned for Json {
-    fn deserialize_owned<F: Format>(
-        alloc: Global,
-        from: &mut Deserializer<'_, '_, F>,
-    ) -> Result<Json, F::Error> {
-        Ok(Json(fetch(alloc, from, MAX_DEPTH)?))
-    }
+fn fetch_any<F: Format>(
+    alloc: Global,
+    from: &mut Deserializer<'_, '_, F>,
+) -> Result<JsonValue, F::Error> {
+    fetch(alloc, from, MAX_DEPTH)
 }
 
 /// A string as a value, inline up to 30 bytes.
