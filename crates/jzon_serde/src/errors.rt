@@ -22,7 +22,7 @@ impl<'v> TreeFormat<'v> {
     }
 
     /// The key that an error is of: the one that is due, or that was just read as a map's key, until a
-    /// step takes its value or asks what it is. (`next_key` keeps none: of a field the value is wrong.)
+    /// step looks at its value. (`next_key` keeps none: of a field the value is wrong.)
     pub(crate) fn key_at_hand(&self) -> Option<&'v str> {
         match self.due {
             Due::Key(key, _) => Some(key),
@@ -54,27 +54,21 @@ impl<'v> TreeFormat<'v> {
         Fault::new(self.alloc, what, indexes, part)
     }
 
-    /// The error of the value that was begun last, which isn't what is expected.
+    /// The error of the key at hand, else of the value begun last, which isn't what is expected.
     #[cold]
     pub(crate) fn expected(&self, expected: Expected) -> Fault {
-        let Some(value) = self.last() else {
-            return self.misused();
+        let (part, found) = match (self.key_at_hand(), self.last()) {
+            (Some(key), _) => (Part::Key, found_text(self.alloc, key)),
+            (None, Some(value)) => (Part::Value, found_in(self.alloc, value)),
+            (None, None) => return self.misused(),
         };
-        let found = found_in(self.alloc, value);
-        let what = found.map(|found| What::Wrong { expected, found });
-        self.fault(Part::Value, what)
+        self.fault(part, found.map(|found| What::Wrong { expected, found }))
     }
 
-    /// The error of the key at hand, else of the value begun last.
+    /// The same in words.
     #[cold]
     pub(crate) fn unfit(&self, words: &'static str) -> Fault {
-        let expected = Expected::Other(words);
-        let Some(key) = self.key_at_hand() else {
-            return self.expected(expected);
-        };
-        let found = found_text(self.alloc, key);
-        let what = found.map(|found| What::Wrong { expected, found });
-        self.fault(Part::Key, what)
+        self.expected(Expected::Other(words))
     }
 
     /// A hand-written reader takes steps that don't fit.

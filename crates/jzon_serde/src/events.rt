@@ -211,11 +211,8 @@ impl<S: Sink + Drop> Events<S> {
     /// Closes the innermost container, of this kind, with no value due after a key.
     fn close(&mut self, is_map: bool) -> Result<(), Fault> {
         let due = if is_map { Due::Key } else { Due::Element };
-        if self.level.due != due {
+        let (true, Some(level)) = (self.level.due == due, self.around.pop()) else {
             return Err(self.refused("no such container ends here"));
-        }
-        let Some(level) = self.around.pop() else {
-            return Err(self.refused("no container is open"));
         };
         self.level = level;
         self.sink.close(is_map)

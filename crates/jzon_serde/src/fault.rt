@@ -106,22 +106,19 @@ impl Wrong {
     /// The JSON Pointer to the member.
     fn pointer(&self, alloc: Global, whole: &JsonValue) -> Result<String, AllocError> {
         let mut pointer = String::new(alloc);
-        let mut value = Some(whole);
+        let mut value = whole;
         for at in self.indexes.iter() {
-            value = match value {
-                Some(JsonValue::Array(items)) => {
-                    write!(pointer, "/{at}").map_err(|_| AllocError)?;
-                    items.get(*at)
-                }
-                Some(JsonValue::Object(object)) => match object.get_index(*at) {
-                    Some((key, member)) => {
-                        push_token(&mut pointer, key)?;
-                        Some(member)
-                    }
-                    None => None,
-                },
-                _ => None,
-            };
+            if let JsonValue::Array(items) = value
+                && let Some(item) = items.get(*at)
+            {
+                write!(pointer, "/{at}").map_err(|_| AllocError)?;
+                value = item;
+            } else if let JsonValue::Object(object) = value
+                && let Some((key, member)) = object.get_index(*at)
+            {
+                push_token(&mut pointer, key)?;
+                value = member;
+            }
         }
         if let Part::Missing(key) = &self.part {
             push_token(&mut pointer, key.as_str())?;

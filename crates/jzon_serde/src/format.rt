@@ -1,7 +1,7 @@
 //! `serde`'s `Format` over a value: its methods are steps of a type's reader (`_input` is empty). A
 //! step reads what is `due`: a value, or a map's key, whose text may spell a number or boolean. `asked`
-//! is what a type asked of it before. `expected` and `unfit` are errors, `unfit` of a key if just that
-//! was read. A `frame` is a container, of which `begun` members were begun.
+//! is what a type asked of it before. `expected` and `unfit` are errors, of a key if just that was read.
+//! A `frame` is a container, of which `begun` members were begun.
 
 use crate::fault::{Fault, Part};
 use crate::number::whole;
@@ -19,7 +19,7 @@ impl<'v> TreeFormat<'v> {
     #[inline(never)]
     fn integer(&mut self, expected: &'static str) -> Result<i128, Fault> {
         let Some(number) = self.look()?.as_number() else {
-            return Err(self.expected(Expected::Other(expected)));
+            return Err(self.unfit(expected));
         };
         match whole(number) {
             Some(_) if may_be_cut(number) => {
@@ -28,16 +28,18 @@ impl<'v> TreeFormat<'v> {
                 Err(self.fault(Part::Value, Ok(What::Cut { expected, found })))
             }
             // Its digits are followed by zeros: it has no fraction.
-            None if number.as_parts().2 > 0 => Err(self.expected(WIDE)),
-            Some(integer) if integer < 0 && expected == UNSIGNED => {
-                Err(self.expected(Expected::Other(UNSIGNED)))
-            }
+            None if number.as_parts().2 > 0 => Err(self.unfit("an integer of at most 64 bits")),
+            Some(integer) if integer < 0 && expected == UNSIGNED => Err(self.unfit(UNSIGNED)),
             integer => self.taken(integer, Expected::Other(expected)),
         }
     }
 
     /// The integer of a key. One out of range is an error of its own.
-    fn integer_key<T: FromStr<Err: Drop>>(&mut self, key: &str, expected: &'static str) -> Result<T, Fault> {
+    fn integer_key<T: FromStr<Err: Drop>>(
+        &mut self,
+        key: &str,
+        expected: &'static str,
+    ) -> Result<T, Fault> {
         self.asked = Asked::Integer;
         if !is_integer(key) || (expected == UNSIGNED && key.starts_with('-')) {
             return Err(self.unfit(expected));
@@ -81,7 +83,7 @@ impl<'v> TreeFormat<'v> {
             Container::Map(object) if object.len() != 1 => {
                 // The object is wrong.
                 self.leave();
-                Err(self.expected(Expected::Other("an object of 1 entry")))
+                Err(self.unfit("an object of 1 entry"))
             }
             _ => Ok(()),
         }
@@ -93,8 +95,6 @@ const UNSIGNED: &str = "an integer of at least 0";
 const SIGNED: &str = "an integer";
 
 const IN_RANGE: &str = "an integer in the range of its type";
-
-const WIDE: Expected = Expected::Other("an integer of at most 64 bits");
 
 const FLOAT: &str = "a number in a float's range";
 
@@ -212,13 +212,12 @@ impl<'v> Format for TreeFormat<'v> {
     }
 
     /// The kind due: a key is a string, NaN a null, and a number with an exponent a float, as are `-0`,
-    /// which would lose its sign, and numbers below `i64::MIN`. An error after it isn't the key's.
+    /// which would lose its sign, and numbers below `i64::MIN`.
     fn peek(&mut self, _input: &[u8]) -> Result<Kind, Fault> {
         if let Due::Key(_, _) = self.due {
             return Ok(Kind::Str);
         }
         self.asked = Asked::Kind;
-        self.key = None;
         match self.look()? {
             JsonValue::Null => Ok(Kind::Unit),
             JsonValue::Number(number) if number.is_nan() => Ok(Kind::Unit),
@@ -253,11 +252,7 @@ impl<'v> Format for TreeFormat<'v> {
         match self.look()? {
             JsonValue::Null => {}
             JsonValue::Number(number) if number.is_nan() => {}
-            _ => {
-                // An error is no longer the key's.
-                self.key = None;
-                return Ok(false);
-            }
+            _ => return Ok(false),
         }
         self.due = Due::Nothing;
         Ok(true)
@@ -295,7 +290,7 @@ impl<'v> Format for TreeFormat<'v> {
             JsonValue::Object(object) => self.enter(Container::Map(object)),
             // An enum, which takes a string too, asks for the kind first.
             value if self.asked == Asked::Kind && value.as_str().is_none() => {
-                Err(self.expected(Expected::Other("a string or an object")))
+                Err(self.unfit("a string or an object"))
             }
             _ => Err(self.expected(Expected::Object)),
         }
@@ -305,14 +300,8 @@ impl<'v> Format for TreeFormat<'v> {
     #[inline(always)]
     fn begin_struct(&mut self, _input: &[u8]) -> Result<bool, Fault> {
         match self.look()? {
-            JsonValue::Object(object) => {
-                self.enter(Container::Map(object))?;
-                Ok(false)
-            }
-            JsonValue::Array(items) => {
-                self.enter(Container::Seq(items.as_slice()))?;
-                Ok(true)
-            }
+            JsonValue::Object(object) => self.enter(Container::Map(object)).map(|()| false),
+            JsonValue::Array(items) => self.enter(Container::Seq(items.as_slice())).map(|()| true),
             _ => Err(self.expected(Expected::Object)),
         }
     }
@@ -360,9 +349,11 @@ impl<'v> Format for TreeFormat<'v> {
     #[inline(always)]
     fn skip(&mut self, _input: &[u8]) -> Result<(), Fault> {
         match self.due {
-            Due::Value(_) => self.due = Due::Nothing,
             Due::Key(_, value) => self.due = Due::Value(value),
-            Due::Nothing => return Err(self.misused()),
+            _ => {
+                self.look()?;
+                self.due = Due::Nothing;
+            }
         }
         Ok(())
     }
@@ -444,7 +435,7 @@ impl<'v> Format for TreeFormat<'v> {
     #[cold]
     fn wrong_len(&self) -> Fault {
         let (Container::Seq(items), Due::Value(_)) = (self.frame.container, self.due) else {
-            return self.expected(Expected::Other("an array of another length"));
+            return self.unfit("an array of another length");
         };
         let expected = Expected::Exactly(self.frame.begun.saturating_sub(1));
         let found = Found::Array(items.len());

@@ -5,7 +5,6 @@ use crate::fault::Fault;
 use jzon::JsonValue;
 use jzon::codegen::Generator;
 use jzon::object::{Key, Object};
-use jzon::short::{MAX_LEN, Short};
 use std::alloc::Global;
 use std::io;
 
@@ -50,12 +49,9 @@ impl Sink for Tree {
         })
     }
 
-    /// Up to 30 bytes stand inline.
     fn put_string(&mut self, text: &str) -> Result<(), Fault> {
-        if text.len() <= MAX_LEN {
-            return self.put_value(JsonValue::Short(Short::from_slice(text)));
-        }
-        self.put_value(JsonValue::String(String::from_str(self.alloc, text)?))
+        let value = jzon::from(self.alloc, text).map_err(|_refused| Fault::MEMORY)?;
+        self.put_value(value)
     }
 
     fn put_key(&mut self, key: &str) -> Result<(), Fault> {

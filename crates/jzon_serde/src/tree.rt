@@ -77,7 +77,7 @@ pub(crate) struct TreeFormat<'v> {
     pub(crate) kept: usize,
     pub(crate) frame: Frame<'v>,
     pub(crate) due: Due<'v>,
-    /// The key that was last read; `None` once an error is no longer the key's.
+    /// The key that was just read; `None` once a step looked at its value: an error is the value's.
     pub(crate) key: Option<&'v str>,
     /// The error of the last name that is no variant's.
     pub(crate) unknown: Option<Fault>,
@@ -114,9 +114,12 @@ impl<'v> TreeFormat<'v> {
 
     /// The value that is due. A due key is an error: the type is no string, number or boolean.
     #[inline(always)]
-    pub(crate) fn look(&self) -> Result<&'v JsonValue, Fault> {
+    pub(crate) fn look(&mut self) -> Result<&'v JsonValue, Fault> {
         match self.due {
-            Due::Value(value) => Ok(value),
+            Due::Value(value) => {
+                self.key = None;
+                Ok(value)
+            }
             Due::Key(_, _) => Err(self.unfit("a key of its type")),
             Due::Nothing => Err(self.misused()),
         }
@@ -164,13 +167,12 @@ impl<'v> TreeFormat<'v> {
         Ok(Some(entry))
     }
 
-    /// No error of the next member names the key of the one before, or what was asked.
+    /// Nothing is known of the next member.
     #[inline(always)]
     pub(crate) fn begin_member(&mut self) {
         self.frame.begun = self.frame.begun.saturating_add(1);
         self.frame.cases = NO_CASES;
         self.asked = Asked::Nothing;
-        self.key = None;
     }
 
     /// Reads the string or key that is due.
