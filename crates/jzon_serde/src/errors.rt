@@ -15,10 +15,7 @@ impl<'v> TreeFormat<'v> {
 
     /// The value that was begun last, or the container if none was.
     pub(crate) fn last(&self) -> Option<&'v JsonValue> {
-        if self.frame.begun > 0 {
-            return begun_last(&self.frame);
-        }
-        begun_last(self.around(&self.frame)?)
+        begun_last(&self.frame).or_else(|| begun_last(self.around(&self.frame)?))
     }
 
     /// The key that an error is of: the one that is due, or that was just read as a map's key, until a
@@ -120,9 +117,9 @@ fn one_of(alloc: Global, names: &[Name<'_>]) -> Result<String, AllocError> {
     Ok(words)
 }
 
-/// The member that was begun last, of one or more.
+/// The member that was begun last.
 fn begun_last<'v>(frame: &Frame<'v>) -> Option<&'v JsonValue> {
-    let at = frame.begun.saturating_sub(1);
+    let at = frame.begun.checked_sub(1)?;
     match frame.container {
         Container::Whole(value) => Some(value),
         Container::Seq(items) => items.get(at),
