@@ -106,6 +106,9 @@ impl<S: Sink + Drop> Events<S> {
     /// A value that is no key comes, if one is due; sets what is due then.
     #[inline(always)]
     fn begin_value(&mut self) -> Result<(), Fault> {
+        if self.at_key {
+            return Err(self.refused("a key is a string, a number or a boolean"));
+        }
         if self.flattens {
             return Err(self.refused("only a map is flattened"));
         }
@@ -191,13 +194,10 @@ impl<S: Sink + Drop> Events<S> {
         done
     }
 
-    /// Opens a map or a list where a value is due that is no key.
+    /// Opens a map or a list where a value is due.
     fn open(&mut self, is_map: bool) -> Result<(), Fault>
         ensures within { OnOk result (length self.new.around.items ≤ 512) }
     {
-        if self.at_key {
-            return Err(self.refused("a key is a string, a number or a boolean"));
-        }
         self.begin_value()?;
         if self.around.len() >= MAX_DEPTH {
             return Err(self.refused("more than 512 containers are open"));
@@ -290,9 +290,6 @@ impl<S: Sink + Drop> Serializer for Events<S> {
 
     /// Null; of a flattened `None` nothing.
     fn unit(&mut self) -> Result<(), Fault> {
-        if self.at_key {
-            return Err(self.refused("a key is a string, a number or a boolean"));
-        }
         if self.flattens {
             self.flattens = false;
             return Ok(());

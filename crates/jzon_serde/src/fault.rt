@@ -8,12 +8,10 @@ use jzon_pointer::{locate, push_token};
 use std::alloc::{AllocError, AllocFailed, Global};
 use std::fmt::Write;
 
-/// Why a step failed. It is one pointer, so that a step that succeeds moves none of it.
+/// Why a step failed: `None` if an allocation did. It is one pointer, so that a step that succeeds moves
+/// none of it.
 #[derive(Clone, Drop)]
-pub(crate) struct Fault {
-    // `None` if an allocation failed.
-    wrong: Option<Box<Wrong>>,
-}
+pub(crate) struct Fault(Option<Box<Wrong>>);
 
 /// What is wrong, and with which part of which member of the value. The keys to it may be long, so they
 /// aren't here: a type may drop many errors.
@@ -37,7 +35,7 @@ pub(crate) enum Part {
 }
 
 impl Fault {
-    pub(crate) const MEMORY: Fault = Fault { wrong: None };
+    pub(crate) const MEMORY: Fault = Fault(None);
 
     /// A fault that says this, or `MEMORY` if it couldn't be made.
     #[cold]
@@ -55,12 +53,11 @@ impl Fault {
             indexes,
             part,
         };
-        let wrong = Box::new(alloc, wrong).ok();
-        Fault { wrong }
+        Fault(Box::new(alloc, wrong).ok())
     }
 
     pub(crate) fn is_memory(&self) -> bool {
-        self.wrong.is_none()
+        self.0.is_none()
     }
 
     /// The error with its place in the text that the value was read from: of a wrong key the key's,
@@ -75,7 +72,7 @@ impl Fault {
     ) -> Error
         ensures { IsOfValueIn text.now result }
     {
-        let is_of_key = matches!(&self.wrong, Some(wrong) if matches!(&wrong.part, Part::Key));
+        let is_of_key = matches!(&self.0, Some(wrong) if matches!(&wrong.part, Part::Key));
         let error = self.into_error(alloc, value);
         if !is_of_key {
             return error.in_text(alloc, text, reading);
@@ -92,7 +89,7 @@ impl Fault {
     pub(crate) fn into_error(self, alloc: Global, value: &JsonValue) -> Error
         ensures { IsOfValue result }
     {
-        let Some(wrong) = self.wrong else {
+        let Some(wrong) = self.0 else {
             return Error::MEMORY;
         };
         match wrong.pointer(alloc, value) {

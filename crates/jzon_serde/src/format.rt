@@ -98,13 +98,6 @@ const IN_RANGE: &str = "an integer in the range of its type";
 
 const FLOAT: &str = "a number in a float's range";
 
-/// Whether the names, all of one kind, are those of variants.
-#[inline(always)]
-fn is_of_variants(names: &[Name<'_>]) -> bool {
-    let first = names.first();
-    first.is_some_and(|name| name.kind == NameKind::Variant)
-}
-
 /// Whether a text is an integer's, in the one way to write it: or `7` and `07` would be one key of a map.
 fn is_integer(key: &str) -> bool {
     match key.strip_prefix('-').unwrap_or(key).as_bytes() {
@@ -311,7 +304,10 @@ impl<'v> Format for TreeFormat<'v> {
     /// the names' cases for `missing`.
     #[inline(always)]
     fn next_key(&mut self, _input: &[u8], names: &[Name<'_>]) -> Result<Option<usize>, Fault> {
-        if is_of_variants(names) {
+        let are_variants = names
+            .first()
+            .is_some_and(|name| name.kind == NameKind::Variant);
+        if are_variants {
             self.single_entry()?;
         }
         let Some((key, value)) = self.entry()? else {
@@ -320,7 +316,7 @@ impl<'v> Format for TreeFormat<'v> {
         };
         self.due = Due::Value(value);
         let at = find(names, key);
-        if at == usize::MAX && is_of_variants(names) {
+        if at == usize::MAX && are_variants {
             self.note_variants(names);
         }
         Ok(Some(at))

@@ -112,8 +112,7 @@ fn send_exact<S: Serializer>(number: &Number, out: &mut S) -> Result<(), S::Erro
     let words = InlineText::<64>::of(EXACT).and(*number, 32);
     let _told = out.custom(words.as_str());
     let float: f64 = fast_float::from_parts(!positive, mantissa, i64::from(exponent));
-    let mut buffer = ryu::Buffer::new();
-    if number_of(buffer.format(float)) == Some(*number) {
+    if number_of(ryu::Buffer::new().format(float)) == Some(*number) {
         return out.f64(float);
     }
     out.begin_key()?;
@@ -205,8 +204,7 @@ fn fetch_number<F: Format>(
 /// which other formats may have, become NaN.
 fn fetch_float<F: Format>(from: &mut Deserializer<'_, '_, F>) -> Result<Number, F::Error> {
     let float = from.f64()?;
-    let mut buffer = ryu::Buffer::new();
-    match number_of(buffer.format(float)) {
+    match number_of(ryu::Buffer::new().format(float)) {
         Some(number) => Ok(number),
         None if !float.is_finite() => Ok(NAN),
         None => Err(from.invalid()),
