@@ -254,7 +254,7 @@ impl<'v> Format for TreeFormat<'v> {
     #[inline(always)]
     fn begin_seq(&mut self, _input: &[u8]) -> Result<(), Fault> {
         match self.look()? {
-            JsonValue::Array(items) => self.enter(Container::Seq(items.as_slice())),
+            JsonValue::Array(items) => self.enter(Container::Seq(items)),
             _ => Err(self.expected(Expected::Array)),
         }
     }
@@ -294,7 +294,7 @@ impl<'v> Format for TreeFormat<'v> {
     fn begin_struct(&mut self, _input: &[u8]) -> Result<bool, Fault> {
         match self.look()? {
             JsonValue::Object(object) => self.enter(Container::Map(object)).map(|()| false),
-            JsonValue::Array(items) => self.enter(Container::Seq(items.as_slice())).map(|()| true),
+            JsonValue::Array(items) => self.enter(Container::Seq(items)).map(|()| true),
             _ => Err(self.expected(Expected::Object)),
         }
     }

@@ -13,7 +13,7 @@ use std::alloc::Global;
 pub(crate) enum Container<'v> {
     /// The value that was passed.
     Whole(&'v JsonValue),
-    Seq(&'v [JsonValue]),
+    Seq(&'v Vec<JsonValue>),
     Map(&'v Object),
 }
 
