@@ -83,6 +83,7 @@ fn structure(alloc: Global, kind: &str, text: &str) -> Option<Read> {
         "Options" => Some(written::<Options>(alloc, text)),
         "Limits" => Some(written::<Limits>(alloc, text)),
         "Flat" => Some(written::<Flat>(alloc, text)),
+        "Style" => Some(written::<Style>(alloc, text)),
         "Extra" => Some(written::<Extra>(alloc, text)),
         _ => choice(alloc, kind, text),
     }

@@ -295,6 +295,7 @@ const ATTRIBUTES: &[Row] = rows! {
     ("Flat", "{\"timeout\": 5, \"max-size\": 1, \"logLevel\": \"info\"}", "/name: missing, expected a value at (1:1)")
     ("Flat", "{\"timeout\": 5, \"max-size\": 1, \"name\": \"a\"}", "the field log_level is missing at (1:1)")
     ("Flat", "{\"name\": \"a\", \"timeout\": -5}", "/timeout: expected an integer of at least 0, found -5 at (1:26)")
+    ("Style", "{\"text-color\": {\"r\": 1, \"g\": 2, \"b\": 3}}", "the field font_name is missing at (1:1)")
     (
         "Extra",
         "{\"KIND\": \"k\", \"MAX_PRICE\": 19.90, \"DETAILS\": {\"z\": [1.50], \"a\": null}}",

@@ -77,6 +77,21 @@ pub struct Flat {
     limits: Limits,
 }
 
+/// Its keys are spelled in two ways too, and the last one's value is a struct.
+#[derive(Drop, Serialize, Deserialize)]
+#[serde(rename_all = "camelCase")]
+pub struct Style {
+    font_name: String,
+    #[serde(flatten)]
+    colors: Colors,
+}
+
+#[derive(Drop, Serialize, Deserialize)]
+#[serde(rename_all = "kebab-case")]
+pub struct Colors {
+    text_color: Rgb,
+}
+
 #[derive(Drop, Serialize, Deserialize, PartialEq, Eq, PartialOrd, Ord)]
 #[serde(rename_all = "lowercase")]
 pub enum Level {
